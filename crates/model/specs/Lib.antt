@@ -1,0 +1,16 @@
+-- Document 01 as definitions, in its order.
+pub mod Lists
+pub mod Identifier
+pub mod Table
+pub mod Ring
+pub mod Answer
+pub mod Steps
+pub mod New
+pub mod Findings
+pub mod Alike
+pub mod TakeOver
+pub mod Image
+pub mod Refusals
+pub mod Calls
+pub mod Run
+pub mod Examples
