@@ -16,6 +16,16 @@ pub data Call : Type 0 where
   Lookup : (n k : ℕ) → Call
   Audit : Call
 
+-- the identifiers and the key that a call is given
+abbrev pub numbersOf : Call → List ℕ
+numbersOf (Join j p) = j ∷ p ∷ []
+numbersOf (Leave n) = n ∷ []
+numbersOf (Fail n) = n ∷ []
+numbersOf (Stabilize n) = n ∷ []
+numbersOf (Rectify n q) = n ∷ q ∷ []
+numbersOf (Lookup n k) = n ∷ k ∷ []
+numbersOf Audit = []
+
 -- what a call answers on a slice
 unfoldable pub callAnswer : List ℕ → Call → Answer
 callAnswer ws (Join j p) = joinAnswer ws j p
