@@ -1,0 +1,21 @@
+// Identifiers: the order round the ring, and the identifier after another.
+ghost use mathlib.Core.Path.{_≡_};
+ghost use Rattle.model.specs.Identifier.{space, between as betweenOf, after as afterOf};
+
+// Does n lie strictly inside the way up from a to b, round the end if need be?
+pub fn between(a: u32, n: u32, b: u32) -> bool
+    ensures { λ r. ⌜ r ≡ betweenOf a n b ⌝ }
+{
+    if a < b {
+        a < n && n < b
+    } else {
+        a < n || n < b
+    }
+}
+
+// The identifier after n: a wrapping add of one.
+pub fn after(n: u32) -> u32
+    ensures { λ r. ⌜ r ≡ afterOf space n ⌝ }
+{
+    std::num::wrapping_add_u32(n, 1)
+}

@@ -1,0 +1,2 @@
+-- How contracts see a record of the code.
+pub mod View

@@ -1,0 +1,3 @@
+-- What the contracts of this crate cite besides the model.
+pub mod Formed
+pub mod Rank

@@ -1,0 +1,88 @@
+// The words of one record, and gaps among records. For the crates above; a caller of the library uses none of this.
+ghost use mathlib.Core.Path.{_≡_};
+ghost use mathlib.Core.List.{_++_};
+ghost use Prim.Native.Nat.{_+_, _*_, _≤_};
+ghost use lib.ListN.{length, take, drop, replicate};
+ghost use Rattle.model.specs.Table.{headerSize, recordSize, memberOf, recordOf};
+ghost use Rattle.member.specs.View.{view};
+use member::Member;
+
+// Where the record of index k starts in a table.
+pub fn offset(r: usize, k: usize) -> usize
+    requires { ⌜ (r ≤ 8) × (k ≤ 256) ⌝ }
+    ensures { λ o. ⌜ (o ≡ headerSize + k * recordSize r) × (o ≤ 3075) ⌝ }
+{
+    3 + k * (r + 4)
+}
+
+// One member's record, read from its part of the table.
+pub fn read_member(part: &[u32], r: usize) -> Member
+    requires { ⌜ (r ≤ 8) × (length (now part) ≡ recordSize r) ⌝ }
+    ensures { λ m. ⌜ view r m ≡ memberOf r (now (part .entry)) ⌝ }
+{
+    let mut l = [0u32; 8];
+    let mut i = 0;
+    while i < r {
+        l[i] = part[4 + i];
+        i += 1;
+    }
+    Member {
+        id: part[0],
+        predecessor: part[1],
+        pending: part[2],
+        candidate: part[3],
+        successors: l,
+    }
+}
+
+// One member's record, written to the front of a part; what stands behind it stays.
+pub fn write_member(part: &mut [u32], m: Member, r: usize)
+    requires { ⌜ (r ≤ 8) × (recordSize r ≤ length (now part)) ⌝ }
+    ensures { λ _. ⌜ now (part .exit) ≡ recordOf (view r m) ++ drop (recordSize r) (now (part .entry)) ⌝ }
+{
+    part[0] = m.id;
+    part[1] = m.predecessor;
+    part[2] = m.pending;
+    part[3] = m.candidate;
+    let l = m.successors;
+    let mut i = 0;
+    while i < r {
+        part[4 + i] = l[i];
+        i += 1;
+    }
+}
+
+// A gap of so many words is opened at the front: the used words move up, and the gap keeps its old words.
+pub fn open_gap(tail: &mut [u32], used: usize, width: usize)
+    requires { ⌜ used + width ≤ length (now tail) ⌝ }
+    ensures { λ _. ⌜ now (tail .exit) ≡ take width (now (tail .entry)) ++ (take used (now (tail .entry)) ++ drop (used + width) (now (tail .entry))) ⌝ }
+{
+    let mut i = used;
+    while 0 < i {
+        i -= 1;
+        tail[i + width] = tail[i];
+    }
+}
+
+// The words at the front are closed over: the used words behind them move down, and the words freed become 0.
+pub fn close_gap(tail: &mut [u32], used: usize, width: usize)
+    requires { ⌜ (width ≤ used) × (used ≤ length (now tail)) ⌝ }
+    ensures { λ _. ⌜ now (tail .exit) ≡ drop width (take used (now (tail .entry))) ++ (replicate width 0 ++ drop used (now (tail .entry))) ⌝ }
+{
+    let n = used - width;
+    for i in 0..n {
+        tail[i] = tail[i + width];
+    }
+    for j in n..used {
+        tail[j] = 0;
+    }
+}
+
+// A gap is opened at the front of the tail, and the record written there.
+pub fn put_in(tail: &mut [u32], used: usize, m: Member, r: usize)
+    requires { ⌜ (r ≤ 8) × (used + recordSize r ≤ length (now tail)) ⌝ }
+    ensures { λ _. ⌜ now (tail .exit) ≡ recordOf (view r m) ++ (take used (now (tail .entry)) ++ drop (used + recordSize r) (now (tail .entry))) ⌝ }
+{
+    open_gap(tail, used, r + 4);
+    write_member(tail, m, r);
+}
