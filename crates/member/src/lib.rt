@@ -23,7 +23,9 @@ impl Member {
     {
         let l = self.successors;
         let mut n = [l[1], l[2], l[3], l[4], l[5], l[6], l[7], 0];
-        n[r - 1] = ident::after(l[r - 1]);
+        let last = l[r - 1];
+        let next = ident::after(last);
+        n[r - 1] = next;
         self.successors = n;
         self
     }

@@ -1,21 +1,18 @@
+-- `chooses_candidate` meets its contract. Assumes nothing.
+use mathlib.Core.Path.{_∙_}
+use borrow.Author.Tests.{lt-ltb, le-ltb}
 use borrow.Author.Needs.{needs}
+use Rattle.model.specs.TakeOver.{choosesCandidate}
 use Rattle.take_over.proofs.chooses_candidate.Statement.{statement}
 use Rattle.take_over.proofs.chooses_candidate.Tie as tie
-use Rattle.take_over.proofs.chooses_candidate.Reads as reads
-use Rattle.take_over.proofs.chooses_candidate.Lts as lts
-use Rattle.ident.proofs.between.Reads as between-reads
 
--- src/lib.rt:22:9
-between-requires : tie.Need-between-requires
-between-requires c κs = search needs
-
--- src/lib.rt:22:9
 returns : tie.Need-returns
-returns c = ?
+unfolding choosesCandidate
+returns c = c .between .ensures ∙ rw (lt-ltb _ _ (c .before .if1 .taken))
 
--- src/lib.rt:18:1
 returns-2 : tie.Need-returns-2
-returns-2 c = ?
+unfolding choosesCandidate
+returns-2 c = rw (le-ltb _ _ (c .if1 .left))
 
 pub chooses-candidate-spec : {M : Type 1} → statement M
-chooses-candidate-spec = tie.close (tie.spec between-requires returns returns-2)
+chooses-candidate-spec = tie.close (tie.spec (λ c κs. search needs) returns returns-2)

@@ -1,37 +1,17 @@
+-- `take_over` meets its contract: the chosen list's part is the one handed back. Assumes nothing.
+use mathlib.Core.Path.{sym, _∙_}
 use borrow.Author.Needs.{needs}
+use Rattle.model.specs.TakeOver.{takeOver}
 use Rattle.take_over.proofs.take_over.Statement.{statement}
 use Rattle.take_over.proofs.take_over.Tie as tie
-use Rattle.take_over.proofs.take_over.Reads as reads
-use Rattle.take_over.proofs.take_over.Lts as lts
-use Rattle.take_over.proofs.chooses_candidate.Reads as chooses-candidate-reads
-use Rattle.take_over.proofs.without_last.Reads as without-last-reads
 
--- src/lib.rt:31:8
-chooses-candidate-requires : tie.Need-chooses-candidate-requires
-chooses-candidate-requires c κs = search needs
-
--- src/lib.rt:32:9
-without-last-requires : tie.Need-without-last-requires
-without-last-requires c κs = search needs
-
--- src/lib.rt:32:9
 returns : tie.Need-returns
-returns c = ?
+unfolding takeOver
+returns c = c .without-last .ensures ∙ rw (sym (c .before .before .chooses-candidate .ensures) ∙ c .before .if1 .taken)
 
--- src/lib.rt:34:5
-without-last-requires-2 : tie.Need-without-last-requires-2
-without-last-requires-2 c κs = search needs
-
--- src/lib.rt:28:1
 returns-2 : tie.Need-returns-2
-returns-2 c = ?
+unfolding takeOver
+returns-2 c = c .without-last2 .ensures ∙ rw (sym (c .before .before .chooses-candidate .ensures) ∙ c .before .if1 .left)
 
 pub take-over-spec : {M : Type 1} → statement M
-take-over-spec =
-    tie.close
-    (tie.spec
-    chooses-candidate-requires
-    without-last-requires
-    returns
-    without-last-requires-2
-    returns-2)
+take-over-spec = tie.close (tie.spec (λ c κs. search needs) (λ c κs. search needs) returns (λ c κs. search needs) returns-2)
