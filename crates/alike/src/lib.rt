@@ -1,0 +1,56 @@
+// Alike: two tables with equal r, members and first entries.
+ghost use mathlib.Core.Path.{_≡_};
+ghost use Prim.Native.Nat.{_*_, _≤_};
+ghost use mathlib.Core.Bool.{_&&_};
+ghost use mathlib.Core.List.{map};
+ghost use lib.ListN.{length};
+ghost use Rattle.model.specs.Lists.{same};
+ghost use Rattle.model.specs.Table.{recordSize, membersOf, ids};
+ghost use Rattle.model.specs.Ring.{successor};
+ghost use Rattle.model.specs.Calls.{alikeAnswer};
+ghost use Rattle.reply.specs.Answers.{answerOf};
+use reply::Reply;
+
+// Have the n records at the front of each equal identifiers and first entries?
+fn records_alike(us: &[u32], vs: &[u32], r: usize, n: usize) -> bool
+    requires { ⌜ (1 ≤ r) × (r ≤ 8) × (n * recordSize r ≤ length (now us)) × (n * recordSize r ≤ length (now vs)) ⌝ }
+    ensures { λ b. ⌜ b ≡ (same (ids (membersOf r n (now (us .entry)))) (ids (membersOf r n (now (vs .entry)))) && same (map successor (membersOf r n (now (us .entry)))) (map successor (membersOf r n (now (vs .entry))))) ⌝ }
+{
+    let w = r + 4;
+    let mut p = us;
+    let mut q = vs;
+    let mut left = n;
+    while 0 < left {
+        if p[0] != q[0] {
+            return false;
+        }
+        if p[4] != q[4] {
+            return false;
+        }
+        p = &p[w..];
+        q = &q[w..];
+        left -= 1;
+    }
+    true
+}
+
+// Are the tables alike: yes or no, or 1 if either is not well-formed.
+pub fn alike(us: &[u32], vs: &[u32]) -> Reply
+    ensures { λ a. ⌜ answerOf a ≡ alikeAnswer (now (us .entry)) (now (vs .entry)) ⌝ }
+{
+    if table::well_formed(us) {
+        if table::well_formed(vs) {
+            if us[0] != vs[0] {
+                return Reply::No;
+            }
+            if us[1] != vs[1] {
+                return Reply::No;
+            }
+            if records_alike(&us[3..], &vs[3..], us[0] as usize, us[1] as usize) {
+                return Reply::Yes;
+            }
+            return Reply::No;
+        }
+    }
+    Reply::Declined(1)
+}

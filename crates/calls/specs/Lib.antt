@@ -1,0 +1,2 @@
+-- The calls of the code as those of the model.
+pub mod Calls

@@ -1,0 +1,97 @@
+// Loss and withdrawal: a member's record goes.
+ghost use mathlib.Core.Path.{_≡_};
+ghost use mathlib.Core.Bool.{true};
+ghost use lib.ListN.{length, take};
+ghost use Rattle.model.specs.Table.{size, tableOf, membersIn};
+ghost use Rattle.model.specs.Ring.{live};
+ghost use Rattle.model.specs.Steps.{without};
+ghost use Rattle.model.specs.Refusals.{leaveRefusal};
+ghost use Rattle.model.specs.Calls.{failAnswer, failWords, leaveAnswer, leaveWords};
+ghost use Rattle.table.specs.Formed.{Formed};
+ghost use Rattle.reply.specs.Answers.{answerOf};
+use reply::Reply;
+
+// The words of the table, copied: a withdrawal is tried on them first.
+fn copy_of(t: &[u32]) -> [u32; 3075]
+    requires { ⌜ Formed (now t) ⌝ }
+    ensures { λ a. ⌜ take (size (tableOf (now (t .entry)))) a ≡ take (size (tableOf (now (t .entry)))) (now (t .entry)) ⌝ }
+{
+    let r = t[0] as usize;
+    let n = t[1] as usize;
+    let end = words::offset(r, n);
+    let mut a = [0u32; 3075];
+    let mut i = 0;
+    while i < end {
+        a[i] = t[i];
+        i += 1;
+    }
+    a
+}
+
+// The table without its member n, in a copy.
+fn without_member(t: &[u32], n: u32) -> [u32; 3075]
+    requires { ⌜ Formed (now t) ⌝ }
+    requires { ⌜ live (membersIn (now t)) n ≡ true ⌝ }
+    ensures { λ a. ⌜ (Formed a) × (tableOf a ≡ without n (tableOf (now (t .entry)))) ⌝ }
+{
+    let mut a = copy_of(t);
+    table::remove(&mut a, n);
+    a
+}
+
+// Why the member n cannot leave, judged on the table as it would be afterwards: 6 or 7, or 0.
+fn judged(t: &[u32], n: u32) -> u32
+    requires { ⌜ Formed (now t) ⌝ }
+    requires { ⌜ live (membersIn (now t)) n ≡ true ⌝ }
+    ensures { λ k. ⌜ k ≡ leaveRefusal (now (t .entry)) n ⌝ }
+{
+    let a = without_member(t, n);
+    let r = a[0] as usize;
+    let m = a[1] as usize;
+    let best = ring::best_places(&a);
+    if ring::all_live(&a, &best) {
+        let count = principal::count_principals(&a[3..], r, m);
+        if r < count {
+            return 0;
+        }
+        return 7;
+    }
+    6
+}
+
+// Why n cannot leave: 1, 3, 6 or 7, or 0.
+fn leave_refusal(t: &[u32], n: u32) -> u32
+    ensures { λ k. ⌜ k ≡ leaveRefusal (now (t .entry)) n ⌝ }
+{
+    let k = reply::member_refusal(t, n);
+    if k != 0 {
+        return k;
+    }
+    judged(t, n)
+}
+
+// Loss of n: the member count afterwards, or 1 or 3 with the table unchanged.
+pub fn fail(t: &mut [u32], n: u32) -> Reply
+    ensures { λ a. ⌜ (answerOf a ≡ failAnswer (now (t .entry)) n) × (now (t .exit) ≡ failWords (now (t .entry)) n) ⌝ }
+{
+    let k = reply::member_refusal(t, n);
+    if k != 0 {
+        return Reply::Declined(k);
+    }
+    table::remove(t, n);
+    let m = t[1];
+    Reply::Members(m)
+}
+
+// Withdrawal of n: the member count afterwards, or 1, 3, 6 or 7 with the table unchanged.
+pub fn leave(t: &mut [u32], n: u32) -> Reply
+    ensures { λ a. ⌜ (answerOf a ≡ leaveAnswer (now (t .entry)) n) × (now (t .exit) ≡ leaveWords (now (t .entry)) n) ⌝ }
+{
+    let k = leave_refusal(t, n);
+    if k != 0 {
+        return Reply::Declined(k);
+    }
+    table::remove(t, n);
+    let m = t[1];
+    Reply::Members(m)
+}

@@ -1,0 +1,52 @@
+// Find: the walk to the owner of a key.
+ghost use mathlib.Core.Path.{_≡_};
+ghost use Prim.Native.Nat.{_<_};
+ghost use lib.ListN.{getD};
+ghost use Rattle.model.specs.Table.{membersIn, ids};
+ghost use Rattle.model.specs.Steps.{lookup as lookupOf};
+ghost use Rattle.model.specs.Calls.{lookupAnswer};
+ghost use Rattle.table.specs.Formed.{Formed};
+ghost use Rattle.reply.specs.Answers.{answerOf};
+use reply::Reply;
+
+// The walk from the member at a place: its owner and where it was found, or the member without a live entry.
+fn walk(t: &[u32], start: usize, k: u32) -> Reply
+    requires { ⌜ Formed (now t) ⌝ }
+    requires { ⌜ start < getD (now t) 1 0 ⌝ }
+    ensures { λ a. ⌜ answerOf a ≡ lookupOf (membersIn (now (t .entry))) (getD (ids (membersIn (now (t .entry)))) start 0) k ⌝ }
+{
+    let n = t[1] as usize;
+    let mut at = start;
+    let mut left = n;
+    let mut moves: u32 = 0;
+    while 0 < left {
+        let q = ring::id_at(t, at);
+        let next = ring::best_place(t, at);
+        if n <= next {
+            return Reply::Stuck(q);
+        }
+        let b = ring::id_at(t, next);
+        if k == b {
+            return Reply::Owner(b, q, moves);
+        }
+        if ident::between(q, k, b) {
+            return Reply::Owner(b, q, moves);
+        }
+        at = next;
+        moves += 1;
+        left -= 1;
+    }
+    Reply::Stuck(ring::id_at(t, at))
+}
+
+// Find key k from the member n: owner, the member it was found at and the moves; or 1 or 3; or 8 and the member stood at.
+pub fn lookup(t: &[u32], n: u32, k: u32) -> Reply
+    ensures { λ a. ⌜ answerOf a ≡ lookupAnswer (now (t .entry)) n k ⌝ }
+{
+    let c = reply::member_refusal(t, n);
+    if c != 0 {
+        return Reply::Declined(c);
+    }
+    let at = ring::place(t, n);
+    walk(t, at, k)
+}

@@ -1,0 +1,2 @@
+-- What the calls' contracts cite of their answers.
+pub mod Answers

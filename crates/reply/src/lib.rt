@@ -1,0 +1,43 @@
+// What a call answers, and the refusal that the calls of one member share.
+ghost use mathlib.Core.Path.{_≡_};
+ghost use Rattle.model.specs.Refusals.{memberRefusal};
+
+// An answer: the values of a reply, or the number that declines the call.
+pub enum Reply {
+    // join, loss, withdrawal, new: the member count afterwards
+    Members(u32),
+    // stabilize: a dead head was dropped
+    Again,
+    // stabilize: a candidate is to be looked at
+    Look(u32),
+    // stabilize: the shelf to be notified
+    Done(u32),
+    // rectify: the notice was written
+    New,
+    // rectify: it was not
+    Same,
+    // find: owner, the member it was found at, moves
+    Owner(u32, u32, u32),
+    // audit: members, principals, ring members, verdict
+    Report(u32, u32, u32, u32),
+    // alike
+    Yes,
+    No,
+    // 8: find stands at a member without a live entry
+    Stuck(u32),
+    // any other number
+    Declined(u32),
+}
+
+// Why a call of the member n is declined: 1 or 3, or 0 where it is not.
+pub fn member_refusal(t: &[u32], n: u32) -> u32
+    ensures { λ k. ⌜ k ≡ memberRefusal (now (t .entry)) n ⌝ }
+{
+    if table::well_formed(t) {
+        if table::is_member(t, n) {
+            return 0;
+        }
+        return 3;
+    }
+    1
+}

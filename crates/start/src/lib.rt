@@ -1,0 +1,112 @@
+// Starting: the new table of rising identifiers.
+ghost use mathlib.Core.Path.{_≡_};
+ghost use mathlib.Core.Bool.{true, false};
+ghost use Prim.Native.Nat.{_+_, _≤_, _<_};
+ghost use lib.ListN.{length, getD};
+ghost use Rattle.model.specs.Lists.{rising, overlay};
+ghost use Rattle.model.specs.Table.{size, wordsOf};
+ghost use Rattle.model.specs.New.{newMember, newTable};
+ghost use Rattle.model.specs.Refusals.{noNewTable, newRefusal};
+ghost use Rattle.model.specs.Calls.{newAnswer, newWords};
+ghost use Rattle.member.specs.View.{view};
+ghost use Rattle.reply.specs.Answers.{answerOf};
+use member::Member;
+use reply::Reply;
+
+// Do the identifiers strictly rise?
+fn is_rising(xs: &[u32]) -> bool
+    ensures { λ b. ⌜ b ≡ rising (now (xs .entry)) ⌝ }
+{
+    let n = xs.len();
+    let mut i: usize = 1;
+    while i < n {
+        if xs[i] <= xs[i - 1] {
+            return false;
+        }
+        i += 1;
+    }
+    true
+}
+
+// Why no new table can be made: 11 or 10, or 0.
+fn refusal(words: usize, r: u32, xs: &[u32]) -> u32
+    ensures { λ k. ⌜ k ≡ newRefusal words r (now (xs .entry)) ⌝ }
+{
+    let n = xs.len();
+    if r < 1 {
+        return 11;
+    }
+    if 8 < r {
+        return 11;
+    }
+    let w = r as usize;
+    if n <= w {
+        return 11;
+    }
+    if 256 < n {
+        return 11;
+    }
+    if is_rising(xs) {
+        if words < words::offset(w, n) {
+            return 10;
+        }
+        return 0;
+    }
+    11
+}
+
+// The record of the identifier at place i: its neighbours are the next down and up, round the end.
+fn record_at(xs: &[u32], i: usize, r: usize) -> Member
+    requires { ⌜ rising (now xs) ≡ true ⌝ }
+    requires { ⌜ (r ≤ 8) × (r < length (now xs)) × (length (now xs) ≤ 256) × (i < length (now xs)) ⌝ }
+    ensures { λ m. ⌜ view r m ≡ newMember r (now (xs .entry)) (getD (now (xs .entry)) i 0) ⌝ }
+{
+    let n = xs.len();
+    let mut l = [0u32; 8];
+    let mut k: usize = 0;
+    let mut j = i;
+    while k < r {
+        j = if j + 1 < n { j + 1 } else { 0 };
+        l[k] = xs[j];
+        k += 1;
+    }
+    let below = if i == 0 { n - 1 } else { i - 1 };
+    Member {
+        id: xs[i],
+        predecessor: xs[below],
+        pending: 0,
+        candidate: 0,
+        successors: l,
+    }
+}
+
+// The words of the new table, written; the words behind them stay.
+fn write_table(t: &mut [u32], r: usize, xs: &[u32])
+    requires { ⌜ rising (now xs) ≡ true ⌝ }
+    requires { ⌜ (r ≤ 8) × (r < length (now xs)) × (length (now xs) ≤ 256) × (size (newTable r (now xs)) ≤ length (now t)) ⌝ }
+    ensures { λ _. ⌜ now (t .exit) ≡ overlay (wordsOf (newTable r (now (xs .entry)))) (now (t .entry)) ⌝ }
+{
+    let n = xs.len();
+    t[0] = r as u32;
+    t[1] = n as u32;
+    t[2] = 0;
+    let mut i: usize = 0;
+    while i < n {
+        let m = record_at(xs, i, r);
+        let at = words::offset(r, i);
+        words::write_member(&mut t[at..], m, r);
+        i += 1;
+    }
+}
+
+// The new table of r and rising identifiers: the member count, or 11 or 10 with the slice unchanged. The old words are never looked at.
+pub fn new(t: &mut [u32], r: u32, xs: &[u32]) -> Reply
+    ensures { λ a. ⌜ (answerOf a ≡ newAnswer (now (t .entry)) r (now (xs .entry))) × (now (t .exit) ≡ newWords (now (t .entry)) r (now (xs .entry))) ⌝ }
+{
+    let k = refusal(t.len(), r, xs);
+    if k != 0 {
+        return Reply::Declined(k);
+    }
+    write_table(t, r as usize, xs);
+    Reply::Members(xs.len() as u32)
+}
