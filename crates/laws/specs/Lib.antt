@@ -1,2 +1,9 @@
 -- Laws of the definitions of model, for the ring theory and for the proofs of code.
+pub mod Order
+pub mod Lists
+pub mod Extended
+pub mod Places
+pub mod Words
+pub mod Tables
 pub mod Parts
+pub mod Accepted

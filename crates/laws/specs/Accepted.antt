@@ -1,0 +1,60 @@
+-- Accepted calls: what holds where no cause declines one. Assumes nothing.
+use mathlib.Core.Path.{_≡_, refl}
+use mathlib.Core.Bool.{Bool, true, false, not}
+use mathlib.Core.List.{List}
+use Prim.Native.Nat.{ℕ, suc, _-_, _≤_, _<_}
+use native.Mathlib.Omega.{arith}
+use lib.ListN.{length}
+use lib.Dec.{ltb, leb}
+use borrow.Author.Tests.{ltb-false, leb-false, not-false}
+use Rattle.model.specs.Lists.{if_then_else_}
+use Rattle.model.specs.Identifier.{between}
+use Rattle.model.specs.Table.{recordSize, size, tableOf, membersIn, wellFormed}
+use Rattle.model.specs.Ring.{live, named, successor}
+use Rattle.model.specs.Steps.{without}
+use Rattle.model.specs.Refusals.{full, cutsOff, tooFewPrincipals, joinRefusal, memberRefusal, leaveRefusal}
+use Rattle.laws.specs.Lists.{or-false}
+
+pub none-applies : (n : ℕ) (b : Bool) (k : ℕ) → (if b then suc n else k) ≡ 0 → (b ≡ false) × (k ≡ 0)
+none-applies n true k h = absurd (omega arith)
+none-applies n false k h = (refl, h)
+
+pub record MayJoin (ws : List ℕ) (j p : ℕ) : Type 0 where
+  pub new : live (membersIn ws) j ≡ false
+  pub by : live (membersIn ws) p ≡ true
+  pub inside : between p j (successor (named (membersIn ws) p)) ≡ true
+  pub room : full ws ≡ false
+
+pub join-accepted : (ws : List ℕ) (j p : ℕ) → joinRefusal ws j p ≡ 0 → MayJoin ws j p
+unfolding joinRefusal
+join-accepted ws j p h =
+    let a = none-applies 0 (not (wellFormed ws)) _ h in
+    let b = none-applies 1 _ _ (a .1) in
+    let c = none-applies 2 _ _ (b .1) in
+    let d = none-applies 3 _ _ (c .1) in
+    let e = none-applies 4 (full ws) 0 (d .1) in
+    record { new = b .0; by = not-false _ (c .0); inside = not-false _ (d .0); room = e .0 }
+
+pub member-accepted : (ws : List ℕ) (n : ℕ) → memberRefusal ws n ≡ 0 → live (membersIn ws) n ≡ true
+unfolding memberRefusal
+member-accepted ws n h = not-false _ (none-applies 2 (not (live (membersIn ws) n)) 0 (none-applies 0 (not (wellFormed ws)) _ h .1) .0)
+
+pub record MayLeave (ws : List ℕ) (n : ℕ) : Type 0 where
+  pub is-member : live (membersIn ws) n ≡ true
+  pub none-cut-off : cutsOff (without n (tableOf ws)) ≡ false
+  pub enough-left : tooFewPrincipals (without n (tableOf ws)) ≡ false
+
+pub leave-accepted : (ws : List ℕ) (n : ℕ) → leaveRefusal ws n ≡ 0 → MayLeave ws n
+unfolding leaveRefusal
+leave-accepted ws n h =
+    let a = none-applies 0 (not (wellFormed ws)) _ h in
+    let b = none-applies 2 _ _ (a .1) in
+    let c = none-applies 5 _ _ (b .1) in
+    let d = none-applies 6 (tooFewPrincipals (without n (tableOf ws))) 0 (c .1) in
+    record { is-member = not-false _ (b .0); none-cut-off = c .0; enough-left = d .0 }
+
+pub has-room : (ws : List ℕ) → full ws ≡ false → (length (membersIn ws) < 256) × (recordSize (tableOf ws .r) ≤ length ws - size (tableOf ws))
+unfolding full
+has-room ws h =
+    let a = or-false (leb 256 (length (membersIn ws))) (ltb (length ws - size (tableOf ws)) (recordSize (tableOf ws .r))) h in
+    (leb-false 256 (length (membersIn ws)) (a .0), ltb-false (length ws - size (tableOf ws)) (recordSize (tableOf ws .r)) (a .1))

@@ -1,0 +1,141 @@
+-- What it says of a table that it is well-formed, and that it is sound: the tests of model as records of facts.
+use mathlib.Core.Path.{_≡_, refl, ap}
+use mathlib.Core.Bool.{true, _||_}
+use mathlib.Core.List.{List, _∷_}
+use Prim.Native.Nat.{ℕ, zero, suc, _+_, _≤_, _<_}
+use native.Mathlib.Omega.{arith}
+use lib.Dec.{ltb, eqb}
+use lib.ListN.{length}
+use borrow.Author.Tests.{ltb-true, leb-true, eqb-true, lt-ltb, le-leb, eq-eqb, ne-eqb}
+use Rattle.model.specs.Identifier.{space}
+use Rattle.model.specs.Table.{Member, Table, wordLimit, headerSize, recordSize, size, tableOf, ids, formedMember, formed, wellFormed}
+use Rattle.model.specs.Ring.{hasLive, principals, candidateInside, sound}
+use Rattle.model.specs.Calls.{written, writtenFreed}
+use Rattle.laws.specs.Lists.{In, here, there, and-true, true-and, every-in, in-every, Rising, rising-true, true-rising}
+use Rattle.laws.specs.Words.{Lengths, written-table, writtenFreed-table, written-length, writtenFreed-length}
+
+-- a record is right
+pub record FormedMember (w r : ℕ) (m : Member) : Type 0 where
+  pub pending-bit : m .pending ≤ 1
+  pub no-candidate : m .pending ≡ 0 → m .candidate ≡ 0
+  pub list-length : length (m .successors) ≡ r
+  pub id-small : m .id < w
+  pub predecessor-small : m .predecessor < w
+  pub candidate-small : m .candidate < w
+  pub entries-small : (e : ℕ) → In e (m .successors) → e < w
+
+-- a table is well-formed
+pub record Formed (w : ℕ) (T : Table) : Type 0 where
+  pub r-low : 1 ≤ T .r
+  pub r-high : T .r ≤ 8
+  pub count-high : length (T .members) ≤ 256
+  pub steps-small : T .steps < wordLimit
+  pub ids-rising : Rising (ids (T .members))
+  pub each : (m : Member) → In m (T .members) → FormedMember w (T .r) m
+
+-- a slice holds a well-formed table
+pub record WellFormed (ws : List ℕ) : Type 0 where
+  pub header : headerSize ≤ length ws
+  pub fits : size (tableOf ws) ≤ length ws
+  pub table : Formed space (tableOf ws)
+
+-- a table is sound
+pub record Sound (T : Table) : Type 0 where
+  pub live-entry : (m : Member) → In m (T .members) → hasLive (T .members) m ≡ true
+  pub enough : T .r + 1 ≤ principals (T .members)
+  pub candidate-inside : (m : Member) → In m (T .members) → candidateInside m ≡ true
+
+-- pending is 1, or there is no candidate
+no-candidate-of : (p c : ℕ) → (eqb p 1 || eqb c 0) ≡ true → p ≡ 0 → c ≡ 0
+no-candidate-of p c h e = eqb-true c 0 (rw (ne-eqb p 1 (λ q. omega arith)) at h)
+
+of-no-candidate : (p c : ℕ) → p ≤ 1 → (p ≡ 0 → c ≡ 0) → (eqb p 1 || eqb c 0) ≡ true
+of-no-candidate zero c h f = eq-eqb c 0 (f refl)
+of-no-candidate (suc zero) c h f = refl
+of-no-candidate (suc (suc p)) c h f = absurd (omega arith)
+
+pub formed-member : (w r : ℕ) (m : Member) → formedMember w r m ≡ true → FormedMember w r m
+unfolding formedMember
+formed-member w r m h =
+    let a = and-true _ _ h in
+    let b = and-true _ _ (a .0) in
+    let c = and-true _ _ (b .0) in
+    let small : (e : ℕ) → In e (m .id ∷ m .predecessor ∷ m .candidate ∷ m .successors) → e < w = λ e i. ltb-true e w (every-in (λ x. ltb x w) (a .1) i) in
+    record {
+      pending-bit = leb-true _ _ (c .0);
+      no-candidate = no-candidate-of (m .pending) (m .candidate) (c .1);
+      list-length = eqb-true _ _ (b .1);
+      id-small = small _ (here refl);
+      predecessor-small = small _ (there (here refl));
+      candidate-small = small _ (there (there (here refl)));
+      entries-small = λ e i. small e (there (there (there i)));
+    }
+
+pub member-formed : (w r : ℕ) (m : Member) → FormedMember w r m → formedMember w r m ≡ true
+unfolding formedMember
+member-formed w r m f =
+    true-and (true-and (true-and (le-leb _ _ (f .pending-bit)) (of-no-candidate (m .pending) (m .candidate) (f .pending-bit) (f .no-candidate))) (eq-eqb _ _ (f .list-length)))
+    (true-and (lt-ltb _ _ (f .id-small)) (true-and (lt-ltb _ _ (f .predecessor-small)) (true-and (lt-ltb _ _ (f .candidate-small)) (in-every (λ x. ltb x w) (m .successors) (λ e i. lt-ltb e w (f .entries-small e i))))))
+
+pub formed-facts : (w : ℕ) (T : Table) → formed w T ≡ true → Formed w T
+unfolding formed
+formed-facts w T h =
+    let a = and-true _ _ h in
+    let b = and-true _ _ (a .0) in
+    let c = and-true _ _ (b .0) in
+    let d = and-true _ _ (c .0) in
+    let e = and-true _ _ (d .0) in
+    record {
+      r-low = leb-true _ _ (e .0);
+      r-high = leb-true _ _ (e .1);
+      count-high = leb-true _ _ (d .1);
+      steps-small = ltb-true _ _ (c .1);
+      ids-rising = rising-true (ids (T .members)) (b .1);
+      each = λ m i. formed-member w (T .r) m (every-in (formedMember w (T .r)) (a .1) i);
+    }
+
+pub facts-formed : (w : ℕ) (T : Table) → Formed w T → formed w T ≡ true
+unfolding formed
+facts-formed w T f =
+    true-and (true-and (true-and (true-and (true-and (le-leb _ _ (f .r-low)) (le-leb _ _ (f .r-high))) (le-leb _ _ (f .count-high))) (lt-ltb _ _ (f .steps-small))) (true-rising (ids (T .members)) (f .ids-rising)))
+    (in-every (formedMember w (T .r)) (T .members) (λ m i. member-formed w (T .r) m (f .each m i)))
+
+pub wellFormed-facts : (ws : List ℕ) → wellFormed ws ≡ true → WellFormed ws
+unfolding wellFormed
+wellFormed-facts ws h =
+    let a = and-true _ _ h in
+    let b = and-true _ _ (a .0) in
+    record { header = leb-true _ _ (b .0); fits = leb-true _ _ (b .1); table = formed-facts space (tableOf ws) (a .1) }
+
+pub facts-wellFormed : (ws : List ℕ) → WellFormed ws → wellFormed ws ≡ true
+unfolding wellFormed
+facts-wellFormed ws f = true-and (true-and (le-leb _ _ (f .header)) (le-leb _ _ (f .fits))) (facts-formed space (tableOf ws) (f .table))
+
+pub sound-facts : (T : Table) → sound T ≡ true → Sound T
+unfolding sound
+sound-facts T h =
+    let a = and-true _ _ h in
+    let b = and-true _ _ (a .0) in
+    record { live-entry = λ m i. every-in (hasLive (T .members)) (b .0) i; enough = leb-true _ _ (b .1); candidate-inside = λ m i. every-in candidateInside (a .1) i }
+
+pub facts-sound : (T : Table) → Sound T → sound T ≡ true
+unfolding sound
+facts-sound T s = true-and (true-and (in-every (hasLive (T .members)) (T .members) (s .live-entry)) (le-leb _ _ (s .enough))) (in-every candidateInside (T .members) (s .candidate-inside))
+
+-- A slice that holds a well-formed table, no shorter than it
+
+pub holds-formed : (T : Table) (ws : List ℕ) → tableOf ws ≡ T → Formed space T → size T ≤ length ws → WellFormed ws
+holds-formed T ws e f h = record { header = omega arith; fits = omega (arith, ap size e); table = rw e f }
+
+pub formed-lists : (w : ℕ) (T : Table) → Formed w T → Lengths (T .r) (T .members)
+formed-lists w T f m i = f .each m i .list-length
+
+pub written-formed : (T : Table) (ws : List ℕ) → Formed space T → size T ≤ length ws → WellFormed (written T ws)
+written-formed T ws f h =
+    let lists = formed-lists space T f in
+    holds-formed T (written T ws) (written-table T ws lists) f (omega (arith, written-length T ws lists h))
+
+pub writtenFreed-formed : (T : Table) (ws : List ℕ) → Formed space T → size T + recordSize (T .r) ≤ length ws → WellFormed (writtenFreed T ws)
+writtenFreed-formed T ws f h =
+    let lists = formed-lists space T f in
+    holds-formed T (writtenFreed T ws) (writtenFreed-table T ws lists) f (omega (arith, writtenFreed-length T ws lists h))

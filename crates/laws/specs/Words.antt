@@ -1,0 +1,100 @@
+-- A table and its words: what is written is read back, and as many words as the table's size.
+use mathlib.Core.Path.{_≡_, refl, sym, ap, ap₂, _∙_}
+use mathlib.Core.List.{List, [], _∷_, _++_, append-assoc}
+use Prim.Native.Nat.{ℕ, zero, suc, _+_, _*_, _≤_}
+use native.Mathlib.Omega.{arith}
+use lib.ListN.{length, take, drop, replicate, take-append-drop, length-append, length-drop, length-replicate}
+use lib.Seq.{length-take-le, take-at, drop-at, take-add}
+use Rattle.model.specs.Lists.{overlay}
+use Rattle.model.specs.Table.{Member, Table, headerSize, recordSize, size, memberOf, recordOf, membersOf, recordsOf, tableOf, wordsOf}
+use Rattle.model.specs.Calls.{written, writtenFreed}
+use Rattle.laws.specs.Lists.{In, here, there}
+
+-- each member's list has r entries
+abbrev pub Lengths : ℕ → List Member → Type 0
+Lengths r ms = (m : Member) → In m ms → length (m .successors) ≡ r
+
+-- Reading what was written
+
+record-length : (r : ℕ) (m : Member) → length (m .successors) ≡ r → length (recordOf m) ≡ recordSize r
+record-length r m e = omega arith
+
+pub record-read : (r : ℕ) (m : Member) (rest : List ℕ) → length (m .successors) ≡ r → memberOf r (recordOf m ++ rest) ≡ m
+record-read r m rest e = λ i. record { id = m .id; predecessor = m .predecessor; pending = m .pending; candidate = m .candidate; successors = take-at (m .successors) rest r e i }
+
+pub records-read : (r : ℕ) (ms : List Member) (rest : List ℕ) → Lengths r ms → membersOf r (length ms) (recordsOf ms ++ rest) ≡ ms
+records-read r [] rest h = refl
+records-read r (m ∷ ms) rest h =
+    let first : length (m .successors) ≡ r = h m (here refl) in
+    let apart : (recordOf m ++ recordsOf ms) ++ rest ≡ recordOf m ++ (recordsOf ms ++ rest) = append-assoc (recordOf m) (recordsOf ms) rest in
+    let later : drop (recordSize r) (recordOf m ++ (recordsOf ms ++ rest)) ≡ recordsOf ms ++ rest = drop-at (recordOf m) (recordsOf ms ++ rest) (recordSize r) (record-length r m first) in
+    let one : memberOf r ((recordOf m ++ recordsOf ms) ++ rest) ≡ m = ap (memberOf r) apart ∙ record-read r m (recordsOf ms ++ rest) first in
+    let others : membersOf r (length ms) (drop (recordSize r) ((recordOf m ++ recordsOf ms) ++ rest)) ≡ ms = ap (λ (k : List ℕ). membersOf r (length ms) (drop (recordSize r) k)) apart ∙ ap (membersOf r (length ms)) later ∙ records-read r ms rest (λ k i. h k (there i)) in
+    ap₂ (λ (a : Member) (k : List Member). a ∷ k) one others
+
+pub words-read : (T : Table) (rest : List ℕ) → Lengths (T .r) (T .members) → tableOf (wordsOf T ++ rest) ≡ T
+words-read T rest h = λ i. record { r = T .r; steps = T .steps; members = records-read (T .r) (T .members) rest h i }
+
+-- Sizes
+
+pub members-length : (r n : ℕ) (ws : List ℕ) → length (membersOf r n ws) ≡ n
+members-length r zero ws = refl
+members-length r (suc n) ws = ap suc (members-length r n (drop (recordSize r) ws))
+
+pub records-length : (r : ℕ) (ms : List Member) → Lengths r ms → length (recordsOf ms) ≡ length ms * recordSize r
+records-length r [] h = omega arith
+records-length r (m ∷ ms) h = rw (length-append (recordOf m) (recordsOf ms)) (omega (arith, h m (here refl), records-length r ms (λ k i. h k (there i))))
+
+pub words-length : (T : Table) → Lengths (T .r) (T .members) → length (wordsOf T) ≡ size T
+words-length T h = omega (arith, records-length (T .r) (T .members) h)
+
+-- A slice with a table written into it
+
+pub written-table : (T : Table) (ws : List ℕ) → Lengths (T .r) (T .members) → tableOf (written T ws) ≡ T
+written-table T ws h = words-read T (drop (length (wordsOf T)) ws) h
+
+pub writtenFreed-table : (T : Table) (ws : List ℕ) → Lengths (T .r) (T .members) → tableOf (writtenFreed T ws) ≡ T
+writtenFreed-table T ws h = ap tableOf (append-assoc (wordsOf T) freed _) ∙ words-read T (freed ++ drop (length (wordsOf T ++ freed)) ws) h
+  where
+    freed : List ℕ
+    freed = replicate (recordSize (T .r)) 0
+
+overlay-length : (new old : List ℕ) → length new ≤ length old → length (overlay new old) ≡ length old
+overlay-length new old h = simp (length-append, length-drop) (omega arith)
+
+pub written-length : (T : Table) (ws : List ℕ) → Lengths (T .r) (T .members) → size T ≤ length ws → length (written T ws) ≡ length ws
+written-length T ws h le = overlay-length (wordsOf T) ws (omega (arith, words-length T h))
+
+pub writtenFreed-length : (T : Table) (ws : List ℕ) → Lengths (T .r) (T .members) → size T + recordSize (T .r) ≤ length ws → length (writtenFreed T ws) ≡ length ws
+writtenFreed-length T ws h le = overlay-length (wordsOf T ++ replicate (recordSize (T .r)) 0) ws (simp (length-append, length-replicate) (omega (arith, words-length T h)))
+
+-- Writing what was read
+
+pub record-written : (r : ℕ) (ws : List ℕ) → recordSize r ≤ length ws → recordOf (memberOf r ws) ≡ take (recordSize r) ws
+record-written r [] h = absurd (omega arith)
+record-written r (a ∷ []) h = absurd (omega arith)
+record-written r (a ∷ b ∷ []) h = absurd (omega arith)
+record-written r (a ∷ b ∷ c ∷ []) h = absurd (omega arith)
+record-written r (a ∷ b ∷ c ∷ d ∷ l) h = let q : recordSize r ≡ suc (suc (suc (suc r))) = omega arith in rw q
+
+pub records-written : (r n : ℕ) (ws : List ℕ) → n * recordSize r ≤ length ws → recordsOf (membersOf r n ws) ≡ take (n * recordSize r) ws
+records-written r zero ws h = let q : 0 * recordSize r ≡ 0 = omega arith in rw q
+records-written r (suc n) ws h =
+    let q : suc n * recordSize r ≡ recordSize r + n * recordSize r = omega arith in
+    ap₂ (λ (a b : List ℕ). a ++ b) (record-written r ws (omega arith)) (records-written r n (drop (recordSize r) ws) (rw length-drop (omega arith))) ∙ rw q (sym (take-add (recordSize r) (n * recordSize r) ws))
+
+-- a slice that is no shorter than its table: the words of its table are its first, and writing them changes nothing
+pub words-written : (ws : List ℕ) → headerSize ≤ length ws → size (tableOf ws) ≤ length ws → wordsOf (tableOf ws) ≡ take (size (tableOf ws)) ws
+words-written [] h le = absurd (omega arith)
+words-written (a ∷ []) h le = absurd (omega arith)
+words-written (a ∷ b ∷ []) h le = absurd (omega arith)
+words-written (a ∷ b ∷ c ∷ l) h le =
+    let e = members-length a b l in
+    let q : 3 + b * recordSize a ≡ suc (suc (suc (b * recordSize a))) = omega arith in
+    rw (e, q) (ap (λ (k : List ℕ). a ∷ b ∷ c ∷ k) (records-written a b l (omega (arith, ap (λ (n : ℕ). n * recordSize a) e))))
+
+overlay-take : (n : ℕ) (ws : List ℕ) → n ≤ length ws → overlay (take n ws) ws ≡ ws
+overlay-take n ws h = rw (length-take-le n ws h, take-append-drop)
+
+pub written-same : (ws : List ℕ) → headerSize ≤ length ws → size (tableOf ws) ≤ length ws → written (tableOf ws) ws ≡ ws
+written-same ws h le = ap (λ (k : List ℕ). overlay k ws) (words-written ws h le) ∙ overlay-take (size (tableOf ws)) ws le

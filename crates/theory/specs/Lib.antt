@@ -1,0 +1,13 @@
+-- Theorems about model alone. Claim has demand 3's statement, Demand3 its proof.
+pub mod Claim
+pub mod Entries
+pub mod Walks
+pub mod Orbit
+pub mod Static
+pub mod Keep
+pub mod Steps
+pub mod Runs
+pub mod New
+pub mod Lookup
+pub mod Moves
+pub mod Demand3
