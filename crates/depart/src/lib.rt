@@ -63,7 +63,7 @@ fn judged(t: &[u32], n: u32) -> u32
 fn leave_refusal(t: &[u32], n: u32) -> u32
     ensures { λ k. ⌜ k ≡ leaveRefusal (now (t .entry)) n ⌝ }
 {
-    let k = reply::member_refusal(t, n);
+    let k = refusal::member_refusal(t, n);
     if k != 0 {
         return k;
     }
@@ -74,7 +74,7 @@ fn leave_refusal(t: &[u32], n: u32) -> u32
 pub fn fail(t: &mut [u32], n: u32) -> Reply
     ensures { λ a. ⌜ (answerOf a ≡ failAnswer (now (t .entry)) n) × (now (t .exit) ≡ failWords (now (t .entry)) n) ⌝ }
 {
-    let k = reply::member_refusal(t, n);
+    let k = refusal::member_refusal(t, n);
     if k != 0 {
         return Reply::Declined(k);
     }

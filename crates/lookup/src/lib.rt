@@ -43,7 +43,7 @@ fn walk(t: &[u32], start: usize, k: u32) -> Reply
 pub fn lookup(t: &[u32], n: u32, k: u32) -> Reply
     ensures { λ a. ⌜ answerOf a ≡ lookupAnswer (now (t .entry)) n k ⌝ }
 {
-    let c = reply::member_refusal(t, n);
+    let c = refusal::member_refusal(t, n);
     if c != 0 {
         return Reply::Declined(c);
     }

@@ -5,7 +5,7 @@ use mathlib.Core.List.{List, [], _∷_, map}
 use lib.ListN.{replicate}
 use Rattle.model.specs.Lists.{bit}
 use Rattle.model.specs.Identifier.{space, between, after}
-use Rattle.model.specs.Table.{Member, wellFormed, formed, formedMember}
+use Rattle.model.specs.Table.{wellFormed, formed, formedMember}
 use Rattle.model.specs.Ring.{sound, candidateInside}
 use Rattle.model.specs.Steps.{dropHead}
 use Rattle.model.specs.New.{newTable}

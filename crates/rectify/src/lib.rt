@@ -8,7 +8,7 @@ use reply::Reply;
 pub fn rectify(t: &mut [u32], n: u32, q: u32) -> Reply
     ensures { λ a. ⌜ (answerOf a ≡ rectifyAnswer (now (t .entry)) n q) × (now (t .exit) ≡ rectifyWords (now (t .entry)) n q) ⌝ }
 {
-    let k = reply::member_refusal(t, n);
+    let k = refusal::member_refusal(t, n);
     if k != 0 {
         return Reply::Declined(k);
     }

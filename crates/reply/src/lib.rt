@@ -1,6 +1,4 @@
-// What a call answers, and the refusal that the calls of one member share.
-ghost use mathlib.Core.Path.{_≡_};
-ghost use Rattle.model.specs.Refusals.{memberRefusal};
+// What a call answers.
 
 // An answer: the values of a reply, or the number that declines the call.
 pub enum Reply {
@@ -27,17 +25,4 @@ pub enum Reply {
     Stuck(u32),
     // any other number
     Declined(u32),
-}
-
-// Why a call of the member n is declined: 1 or 3, or 0 where it is not.
-pub fn member_refusal(t: &[u32], n: u32) -> u32
-    ensures { λ k. ⌜ k ≡ memberRefusal (now (t .entry)) n ⌝ }
-{
-    if table::well_formed(t) {
-        if table::is_member(t, n) {
-            return 0;
-        }
-        return 3;
-    }
-    1
 }

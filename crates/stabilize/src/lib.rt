@@ -102,7 +102,7 @@ fn count_step(t: &mut [u32])
 pub fn stabilize(t: &mut [u32], n: u32) -> Reply
     ensures { λ a. ⌜ (answerOf a ≡ stabilizeAnswer (now (t .entry)) n) × (now (t .exit) ≡ stabilizeWords (now (t .entry)) n) ⌝ }
 {
-    let k = reply::member_refusal(t, n);
+    let k = refusal::member_refusal(t, n);
     if k != 0 {
         return Reply::Declined(k);
     }

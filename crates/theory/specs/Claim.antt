@@ -1,8 +1,8 @@
 -- Demand 3, stated: what holds of the table after every list of the seven calls. With model this is all that its reader must believe.
 use Prim.Native.Nat.{ℕ, suc, _+_, _≤_, _<_}
 use mathlib.Core.Path.{_≡_}
-use mathlib.Core.Bool.{Bool, true, false, not}
-use mathlib.Core.List.{List, [], _∷_}
+use mathlib.Core.Bool.{true, not}
+use mathlib.Core.List.{List, _∷_}
 use mathlib.Core.Option.{some}
 use lib.Dec.{ltb}
 use lib.ListN.{length, getD}

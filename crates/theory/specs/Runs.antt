@@ -1,23 +1,23 @@
 -- Each of the seven calls keeps a slice well-formed and sound, and so does every list of them.
 use mathlib.Core.Path.{_≡_, refl, sym, ap, _∙_}
-use mathlib.Core.Bool.{Bool, true, false, not}
+use mathlib.Core.Bool.{true}
 use mathlib.Core.List.{List, [], _∷_}
-use Prim.Native.Nat.{ℕ, zero, suc, _+_, _-_, _*_, _≤_, _<_}
+use Prim.Native.Nat.{ℕ, zero, suc, _+_, _*_, _≤_, _<_}
 use native.Mathlib.Omega.{arith}
 use lib.ListN.{length}
-use lib.Dec.{ltb, leb}
-use borrow.Author.Tests.{ltb-true, ltb-false, leb-false, eqb-true, eq-eqb, not-false}
-use Rattle.model.specs.Lists.{if_then_else_, every}
-use Rattle.model.specs.Identifier.{space, between}
+use lib.Dec.{ltb}
+use borrow.Author.Tests.{ltb-true, eqb-true, eq-eqb}
+use Rattle.model.specs.Lists.{every}
+use Rattle.model.specs.Identifier.{space}
 use Rattle.model.specs.Table.{Member, Table, headerSize, recordSize, size, tableOf, membersIn, wellFormed}
-use Rattle.model.specs.Ring.{live, named, successor, sound}
+use Rattle.model.specs.Ring.{named, sound}
 use Rattle.model.specs.Answer.{answer, accepted, afterwards}
 use Rattle.model.specs.Steps.{joiner, joined, stabilize, stabilized, replaced, rectifyIn, rectified, removed, without}
-use Rattle.model.specs.Refusals.{full, cutsOff, tooFewPrincipals, joinRefusal, memberRefusal, leaveRefusal}
+use Rattle.model.specs.Refusals.{joinRefusal, memberRefusal, leaveRefusal}
 use Rattle.model.specs.Calls.{written, writtenFreed, joinWords, stabilizeWords, rectifyWords, failAnswer, failWords, leaveAnswer, leaveWords}
 use Rattle.model.specs.Run.{Call, Join, Leave, Fail, Stabilize, Rectify, Lookup, Audit, numbersOf, callAnswer, callWords, run, grantedCall, granted}
-use Rattle.laws.specs.Lists.{and-true, or-false, implied, length-ids, live-in}
-use Rattle.laws.specs.Accepted.{MayJoin, join-accepted, member-accepted, MayLeave, leave-accepted, has-room}
+use Rattle.laws.specs.Lists.{and-true, implied, length-ids, live-in}
+use Rattle.laws.specs.Accepted.{join-accepted, member-accepted, MayLeave, leave-accepted, has-room}
 use Rattle.laws.specs.Words.{written-table, writtenFreed-table}
 use Rattle.laws.specs.Tables.{wellFormed-facts, facts-wellFormed, sound-facts, facts-sound, formed-lists, written-formed, writtenFreed-formed}
 use Rattle.theory.specs.Claim.{Starts}

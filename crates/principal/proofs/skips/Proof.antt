@@ -1,5 +1,4 @@
 -- `skips` meets its contract. The invariant: what is left of the list answers as the whole list does. Assumes nothing.
-use Prim.Native.Nat.{ℕ}
 use mathlib.Core.Path.{_≡_, _∙_}
 use lib.ListN.{length}
 use borrow.Author.Needs.{needs}
