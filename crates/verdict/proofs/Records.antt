@@ -1,0 +1,22 @@
+-- One turn of the loop over candidates. Assumes nothing.
+use Prim.Native.Nat.{ℕ, _+_, _-_, _≤_, _<_}
+use mathlib.Core.Path.{_≡_, _∙_}
+use mathlib.Core.List.{List}
+use mathlib.Core.Bool.{Bool, true, false}
+use lib.ListN.{getD, take, drop}
+use lib.Seq.{getD-take, getD-drop}
+use Rattle.model.specs.Lists.{every}
+use Rattle.model.specs.Table.{recordSize, memberOf, membersOf}
+use Rattle.model.specs.Ring.{successor, candidateInside}
+use Rattle.laws.specs.Parts.{first-member}
+
+-- the first entry of a record is its word 4
+pub successor-word : (r : ℕ) (ws : List ℕ) → 1 ≤ r → successor (memberOf r ws) ≡ getD ws 4 0
+successor-word r ws h = getD-take r (drop 4 ws) 0 0 h ∙ getD-drop 4 ws 0 0
+
+module _ (r n : ℕ) (ws : List ℕ) (b : Bool) (h : 0 < n) (t : b ≡ candidateInside (memberOf r ws)) where
+  pub inside-here : b ≡ false → false ≡ every candidateInside (membersOf r n ws)
+  inside-here e = rw (first-member r n ws h, ← t, e)
+
+  pub inside-on : b ≡ true → every candidateInside (membersOf r (n - 1) (drop (recordSize r) ws)) ≡ every candidateInside (membersOf r n ws)
+  inside-on e = rw (first-member r n ws h, ← t, e)
