@@ -2,10 +2,12 @@
 use mathlib.Core.List.{[], _∷_}
 use Rattle.model.specs.Answer.{Answer, accepted, declined}
 use Rattle.reply.specs.declared.Reply.{Reply}
-use Rattle.reply.specs.declared.Reply.the-variants.{Members, Again, Look, Done, New, Same, Owner, Report, Yes, No, Stuck, Declined}
+use Rattle.reply.specs.declared.Reply.the-variants.{Members, Bytes, Field, Again, Look, Done, New, Same, Owner, Report, Yes, No, Stuck, Declined}
 
 abbrev pub answerOf : Reply → Answer
 answerOf (Members n) = accepted (n ∷ [])
+answerOf (Bytes n) = accepted (n ∷ [])
+answerOf (Field tag start size next) = accepted (tag ∷ start ∷ size ∷ next ∷ [])
 answerOf Again = accepted (0 ∷ [])
 answerOf (Look c) = accepted (1 ∷ c ∷ [])
 answerOf (Done h) = accepted (2 ∷ h ∷ [])

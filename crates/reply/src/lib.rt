@@ -2,8 +2,12 @@
 
 // An answer: the values of a reply, or the number that declines the call.
 pub enum Reply {
-    // join, loss, withdrawal, new: the member count afterwards
+    // join, loss, withdrawal, new, image reading: the member count afterwards
     Members(u32),
+    // image writing: the bytes written
+    Bytes(u32),
+    // the field at a position of an image: tag, start and length of its contents, next position
+    Field(u32, u32, u32, u32),
     // stabilize: a dead head was dropped
     Again,
     // stabilize: a candidate is to be looked at
