@@ -5,14 +5,55 @@ ghost use mathlib.Core.Bool.{true, false, _&&_};
 ghost use Prim.Native.Nat.{_+_, _*_, _≤_, _<_};
 ghost use lib.Dec.{leb};
 ghost use lib.ListN.{length, getD};
-ghost use Rattle.model.specs.Table.{recordSize, size, memberOf, membersOf, membersIn, tableOf, ids, wellFormed};
+ghost use Rattle.model.specs.Table.{recordSize, size, membersOf, membersIn, tableOf, ids, wellFormed};
 ghost use Rattle.model.specs.Ring.{live, named, nobody};
 ghost use Rattle.model.specs.Steps.{inserted, replaced, without, withMembers};
 ghost use Rattle.model.specs.Calls.{written, writtenFreed};
 ghost use Rattle.member.specs.View.{view};
 ghost use Rattle.table.specs.Formed.{Formed};
 ghost use Rattle.table.specs.Rank.{rank as rankOf};
+ghost use Rattle.table.specs.Tests.{rightPending, rightFrom};
 use member::Member;
+
+// Is the record at the front right, with an identifier of at least lo?
+fn record_ok(s: &[u32], lo: usize) -> bool
+    requires { ⌜ 4 ≤ length (now s) ⌝ }
+    ensures { λ b. ⌜ b ≡ (leb lo (getD (now (s .entry)) 0 0) && rightPending (getD (now (s .entry)) 2 0) (getD (now (s .entry)) 3 0)) ⌝ }
+{
+    let id = s[0] as usize;
+    if id < lo {
+        return false;
+    }
+    let p = s[2];
+    if 1 < p {
+        return false;
+    }
+    if p == 1 {
+        return true;
+    }
+    s[3] == 0
+}
+
+// Are the n records at the front right, by rising identifier?
+fn records_ok(s: &[u32], r: usize, n: usize) -> bool
+    requires { ⌜ (r ≤ 8) × (n * recordSize r ≤ length (now s)) ⌝ }
+    ensures { λ b. ⌜ b ≡ rightFrom 0 (membersOf r n (now (s .entry))) ⌝ }
+{
+    let w = r + 4;
+    let mut p = s;
+    let mut left = n;
+    let mut lo: usize = 0;
+    while 0 < left {
+        if record_ok(p, lo) {
+            lo = p[0] as usize + 1;
+            p = &p[w..];
+            left -= 1;
+        } else {
+            return false;
+        }
+    }
+    true
+}
 
 // Does the slice hold a well-formed table?
 pub fn well_formed(t: &[u32]) -> bool
@@ -137,42 +178,4 @@ pub fn remove(t: &mut [u32], x: u32)
     let end = words::offset(r, n);
     words::close_gap(&mut t[at..], end - at, r + 4);
     t[1] = (n - 1) as u32;
-}
-
-// Is the record at the front right, with an identifier of at least lo?
-fn record_ok(s: &[u32], lo: usize) -> bool
-    requires { ⌜ 4 ≤ length (now s) ⌝ }
-{
-    let id = s[0] as usize;
-    if id < lo {
-        return false;
-    }
-    let p = s[2];
-    if 1 < p {
-        return false;
-    }
-    if p == 1 {
-        return true;
-    }
-    s[3] == 0
-}
-
-// Are the n records at the front right, by rising identifier?
-fn records_ok(s: &[u32], r: usize, n: usize) -> bool
-    requires { ⌜ (r ≤ 8) × (n * recordSize r ≤ length (now s)) ⌝ }
-{
-    let w = r + 4;
-    let mut p = s;
-    let mut left = n;
-    let mut lo: usize = 0;
-    while 0 < left {
-        if record_ok(p, lo) {
-            lo = p[0] as usize + 1;
-            p = &p[w..];
-            left -= 1;
-        } else {
-            return false;
-        }
-    }
-    true
 }

@@ -1,0 +1,103 @@
+-- The test for well-formed tables: what its answer says, and that it may test less than document 01 asks. Assumes nothing.
+use Prim.Native.Nat.{ℕ, zero, suc, _+_, _*_, _-_, _≤_, _<_}
+use mathlib.Core.Path.{_≡_, refl, _∙_}
+use mathlib.Core.List.{List, [], _∷_}
+use mathlib.Core.Bool.{Bool, true, false, _&&_, and-true}
+use native.Mathlib.Nat.{suc-mul}
+use native.Mathlib.Numerals.{add-one}
+use native.Mathlib.Omega.{arith}
+use borrow.Author.Tests.{leb-true, le-leb, lt-ltb, eq-eqb}
+use lib.Dec.{leb, ltb, leb·zero}
+use lib.ListN.{length, getD, take, drop, length-take, length-drop}
+use lib.Seq.{getD-drop}
+use Rattle.laws.specs.Lists.{and-true as both}
+use Rattle.model.specs.Lists.{every, rising, risingFrom}
+use Rattle.model.specs.Identifier.{space}
+use Rattle.model.specs.Table.{headerSize, recordSize, size, tableOf, memberOf, membersOf, membersIn, ids, formedMember, formed as formedTable, wellFormed}
+use Rattle.table.specs.Formed.{Formed}
+use Rattle.table.specs.Tests.{rightPending, rightFrom}
+use Rattle.laws.specs.Words.{members-length}
+use Rattle.laws.specs.Parts.{first-member}
+
+-- The answer as facts
+
+pub formed : (ws : List ℕ) → wellFormed ws ≡ true → Formed ws
+unfolding wellFormed formedTable
+formed ws e =
+    let n : length (membersIn ws) ≡ getD ws 1 0 = members-length (getD ws 0 0) (getD ws 1 0) (drop headerSize ws) in
+    let whole = both _ _ e in
+    let sized = both _ _ (whole .0) in
+    let ordered = both _ _ (both _ _ (whole .1) .0) in
+    let counted = both _ _ (both _ _ (ordered .0) .0) in
+    let r = both _ _ (counted .0) in
+    record { header = leb-true headerSize (length ws) (sized .0); r-low = leb-true 1 (getD ws 0 0) (r .0); r-high = leb-true (getD ws 0 0) 8 (r .1); few = rw n at (leb-true (length (membersIn ws)) 256 (counted .1)); fits = rw n at (leb-true (size (tableOf ws)) (length ws) (sized .1)); rises = ordered .1; right = e }
+
+-- The tests that are left where each word is below the limit
+
+-- each word is an identifier
+abbrev pub Bounded : List ℕ → Type 0
+Bounded ws = (i : ℕ) → getD ws i 0 < space
+
+bounded-take : (n : ℕ) (ws : List ℕ) → Bounded ws → Bounded (take n ws)
+bounded-take zero ws h i = omega arith
+bounded-take (suc n) [] h i = h i
+bounded-take (suc n) (x ∷ ws) h zero = h 0
+bounded-take (suc n) (x ∷ ws) h (suc i) = bounded-take n ws (λ j. h (suc j)) i
+
+pub bounded-drop : (n : ℕ) (ws : List ℕ) → Bounded ws → Bounded (drop n ws)
+bounded-drop n ws h i = rw getD-drop (h (n + i))
+
+every-below : (ws : List ℕ) → Bounded ws → every (λ x. ltb x space) ws ≡ true
+every-below [] h = refl
+every-below (x ∷ ws) h = rw (lt-ltb x space (h 0)) (every-below ws (λ i. h (suc i)))
+
+member-tests : (r : ℕ) (ws : List ℕ) → recordSize r ≤ length ws → Bounded ws → formedMember space r (memberOf r ws) ≡ rightPending (getD ws 2 0) (getD ws 3 0)
+unfolding formedMember rightPending
+member-tests r ws l h =
+    let list : List ℕ = take r (drop 4 ws) in
+    let n : length list ≡ r = simp (length-take, length-drop) (omega arith) in
+    let b : every (λ x. ltb x space) list ≡ true = every-below list (bounded-take r (drop 4 ws) (bounded-drop 4 ws h)) in
+    rw (eq-eqb (length list) r n, lt-ltb (getD ws 0 0) space (h 0), lt-ltb (getD ws 1 0) space (h 1), lt-ltb (getD ws 3 0) space (h 3), b, and-true, and-true)
+
+regroup : (a b c d : Bool) → (a && b && (c && d)) ≡ (a && c && (b && d))
+regroup true true true d = refl
+regroup true true false d = refl
+regroup true false true d = refl
+regroup true false false d = refl
+regroup false b c d = refl
+
+module _ (r : ℕ) where
+  members-tests : (lo n : ℕ) (ws : List ℕ) → n * recordSize r ≤ length ws → Bounded ws → (risingFrom lo (ids (membersOf r n ws)) && every (formedMember space r) (membersOf r n ws)) ≡ rightFrom (lo + 1) (membersOf r n ws)
+  members-tests lo zero ws l h = refl
+  members-tests lo (suc n) ws l h =
+      let s = suc-mul n (recordSize r) in
+      let rest : List ℕ = drop (recordSize r) ws in
+      let x : ℕ = getD ws 0 0 in
+      let i = members-tests x n rest (simp length-drop (omega arith)) (bounded-drop (recordSize r) ws h) in
+      regroup (ltb lo x) (risingFrom x (ids (membersOf r n rest))) (formedMember space r (memberOf r ws)) (every (formedMember space r) (membersOf r n rest)) ∙ rw (member-tests r ws (omega arith) h, i, add-one lo)
+
+  all-tests : (n : ℕ) (ws : List ℕ) → n * recordSize r ≤ length ws → Bounded ws → (rising (ids (membersOf r n ws)) && every (formedMember space r) (membersOf r n ws)) ≡ rightFrom 0 (membersOf r n ws)
+  all-tests zero ws l h = refl
+  all-tests (suc n) ws l h =
+      let s = suc-mul n (recordSize r) in
+      let rest : List ℕ = drop (recordSize r) ws in
+      let x : ℕ = getD ws 0 0 in
+      let i = members-tests x n rest (simp length-drop (omega arith)) (bounded-drop (recordSize r) ws h) in
+      regroup true (risingFrom x (ids (membersOf r n rest))) (formedMember space r (memberOf r ws)) (every (formedMember space r) (membersOf r n rest)) ∙ rw (member-tests r ws (omega arith) h, i, leb·zero x)
+
+-- a slice whose sizes are right is well-formed by the tests of its records
+pub tests : (ws : List ℕ) → Bounded ws → headerSize ≤ length ws → 1 ≤ getD ws 0 0 → getD ws 0 0 ≤ 8 → getD ws 1 0 ≤ 256 → headerSize + getD ws 1 0 * recordSize (getD ws 0 0) ≤ length ws → rightFrom 0 (membersIn ws) ≡ wellFormed ws
+unfolding wellFormed formedTable
+tests ws h l lo hi few fits =
+    let r : ℕ = getD ws 0 0 in
+    let n : ℕ = getD ws 1 0 in
+    let a = all-tests r n (drop headerSize ws) (simp length-drop (omega arith)) (bounded-drop headerSize ws h) in
+    rw (members-length r n (drop headerSize ws), le-leb headerSize (length ws) l, le-leb (headerSize + n * recordSize r) (length ws) fits, le-leb 1 r lo, le-leb r 8 hi, le-leb n 256 few, lt-ltb (getD ws 2 0) space (h 2), ← a)
+
+-- `records_ok`: the test b of the first record settles it, or leaves the others
+module _ (r n lo : ℕ) (ws : List ℕ) (b : Bool) (h : 0 < n) (t : b ≡ (leb lo (getD ws 0 0) && rightPending (getD ws 2 0) (getD ws 3 0))) where
+  pub right-record : b ≡ true → rightFrom (getD ws 0 0 + 1) (membersOf r (n - 1) (drop (recordSize r) ws)) ≡ rightFrom lo (membersOf r n ws)
+  right-record e = rw (first-member r n ws h, ← t, e)
+
+  pub wrong-record : b ≡ false → false ≡ rightFrom lo (membersOf r n ws)
+  wrong-record e = rw (first-member r n ws h, ← t, e)

@@ -1,0 +1,144 @@
+-- The place of an identifier among rising ones, and what is done to the member there. Assumes nothing.
+use Prim.Native.Nat.{ℕ, zero, suc, _≤_, _<_}
+use mathlib.Core.Path.{_≡_, refl, sym, ap, _∙_}
+use mathlib.Core.List.{List, [], _∷_, _++_}
+use mathlib.Core.Bool.{Bool, true, false, _&&_, _||_, or-false, false≢true}
+use native.Mathlib.Nat.{le-of-suc-le-suc}
+use native.Mathlib.Omega.{arith}
+use borrow.Author.Tests.{ltb-true, ltb-false, eqb-true, eqb-false, lt-ltb, le-ltb, eq-eqb, ne-eqb}
+use lib.Dec.{ltb, eqb, leb·suc-suc}
+use lib.ListN.{length, getD, take, drop}
+use Rattle.model.specs.Lists.{if_then_else_, contains, rising, risingFrom}
+use Rattle.model.specs.Table.{Member, headerSize, membersIn, ids}
+use Rattle.model.specs.Ring.{live, named, nobody}
+use Rattle.model.specs.Steps.{inserted, replaced, removed}
+use Rattle.table.specs.Formed.{Formed}
+use Rattle.table.specs.Rank.{rank}
+use Rattle.laws.specs.Words.{members-length}
+use Rattle.laws.specs.Lists.{and-true as both}
+
+-- Rising identifiers
+
+below-eqb : (x y : ℕ) → x < y → eqb x y ≡ false
+below-eqb x y h = ne-eqb x y (λ (e : x ≡ y). omega arith)
+
+rising-tail : (x : ℕ) (l : List ℕ) → risingFrom x l ≡ true → rising l ≡ true
+rising-tail x [] e = refl
+rising-tail x (y ∷ l) e = both (ltb x y) (risingFrom y l) e .1
+
+rising-above : (x : ℕ) (l : List ℕ) (k : ℕ) → risingFrom x l ≡ true → k < length l → x < getD l k 0
+rising-above x [] k e h = absurd (omega arith)
+rising-above x (y ∷ l) zero e h = ltb-true x y (both (ltb x y) (risingFrom y l) e .0)
+rising-above x (y ∷ l) (suc k) e h =
+    let b = both (ltb x y) (risingFrom y l) e in
+    omega (arith, ltb-true x y (b .0), rising-above y l k (b .1) (le-of-suc-le-suc h))
+
+-- what is not above the first is not among the others
+none-below : (x y : ℕ) (l : List ℕ) → risingFrom y l ≡ true → x ≤ y → contains l x ≡ false
+none-below x y [] e h = refl
+none-below x y (z ∷ l) e h =
+    let b = both (ltb y z) (risingFrom z l) e in
+    let q = ltb-true y z (b .0) in
+    rw (ne-eqb z x (λ (p : z ≡ x). omega arith)) (none-below x z l (b .1) (omega arith))
+
+-- The place found by halves
+
+pub rank-most : (l : List ℕ) (x : ℕ) → rank l x ≤ length l
+rank-most [] x = omega arith
+rank-most (y ∷ l) x = go (ltb y x) (rank-most l x)
+  where
+    go : (b : Bool) → rank l x ≤ length l → (if b then suc (rank l x) else 0) ≤ suc (length l)
+    go true h = omega arith
+    go false h = omega arith
+
+pub rank-up : (l : List ℕ) (x k : ℕ) → rising l ≡ true → k < length l → getD l k 0 < x → k < rank l x
+rank-up [] x k e h q = absurd (omega arith)
+rank-up (y ∷ l) x zero e h q = rw (lt-ltb y x q) (omega arith)
+rank-up (y ∷ l) x (suc k) e h q =
+    let b = rising-above y l k e (le-of-suc-le-suc h) in
+    let i = rank-up l x k (rising-tail y l e) (le-of-suc-le-suc h) q in
+    rw (lt-ltb y x (omega arith)) (omega arith)
+
+pub rank-down : (l : List ℕ) (x k : ℕ) → x ≤ getD l k 0 → k < length l → rank l x ≤ k
+rank-down [] x k q h = absurd (omega arith)
+rank-down (y ∷ l) x zero q h = rw (le-ltb y x q) (omega arith)
+rank-down (y ∷ l) x (suc k) q h = go (ltb y x) (rank-down l x k q (le-of-suc-le-suc h))
+  where
+    go : (b : Bool) → rank l x ≤ k → (if b then suc (rank l x) else 0) ≤ suc k
+    go true h = omega arith
+    go false h = omega arith
+
+-- an identifier is there if it is at its place
+pub contains-rank : (l : List ℕ) (x : ℕ) → rising l ≡ true → contains l x ≡ (ltb (rank l x) (length l) && eqb (getD l (rank l x) 0) x)
+contains-rank [] x e = refl
+contains-rank (y ∷ l) x e = go (ltb y x) refl (contains-rank l x (rising-tail y l e))
+  where
+    go : (b : Bool) → ltb y x ≡ b → contains l x ≡ (ltb (rank l x) (length l) && eqb (getD l (rank l x) 0) x) → (eqb y x || contains l x) ≡ (ltb (if b then suc (rank l x) else 0) (suc (length l)) && eqb (getD (y ∷ l) (if b then suc (rank l x) else 0) 0) x)
+    go true t i = rw (below-eqb y x (ltb-true y x t), leb·suc-suc (suc (rank l x)) (length l)) i
+    go false t i = rw (none-below x y l e (ltb-false y x t), lt-ltb 0 (suc (length l)) (omega arith), or-false)
+
+-- Members at their place
+
+-- the member x stands at k, and those before it are below x
+pub data At (x : ℕ) : List Member → ℕ → Type 0 where
+  at-first : {m : Member} {ms : List Member} → m .id ≡ x → At x (m ∷ ms) 0
+  at-later : {m : Member} {ms : List Member} {k : ℕ} → m .id < x → At x ms k → At x (m ∷ ms) (suc k)
+
+-- x is no member, those before k are below x, and the next is above
+pub data Gap (x : ℕ) : List Member → ℕ → Type 0 where
+  gap-last : Gap x [] 0
+  gap-first : {m : Member} {ms : List Member} → x < m .id → Gap x (m ∷ ms) 0
+  gap-later : {m : Member} {ms : List Member} {k : ℕ} → m .id < x → Gap x ms k → Gap x (m ∷ ms) (suc k)
+
+pub live-at : (ms : List Member) (x : ℕ) → rising (ids ms) ≡ true → live ms x ≡ true → At x ms (rank (ids ms) x)
+live-at [] x e l = absurd (false≢true l)
+live-at (m ∷ ms) x e l = go (ltb (m .id) x) refl (eqb (m .id) x) refl l (λ q. live-at ms x (rising-tail (m .id) (ids ms) e) q)
+  where
+    go : (b : Bool) → ltb (m .id) x ≡ b → (c : Bool) → eqb (m .id) x ≡ c → (c || live ms x) ≡ true → (live ms x ≡ true → At x ms (rank (ids ms) x)) → At x (m ∷ ms) (if b then suc (rank (ids ms) x) else 0)
+    go true t true u l i = absurd (omega (arith, ltb-true (m .id) x t, eqb-true (m .id) x u))
+    go true t false u l i = at-later (ltb-true (m .id) x t) (i l)
+    go false t true u l i = at-first (eqb-true (m .id) x u)
+    go false t false u l i = absurd (false≢true (sym (none-below x (m .id) (ids ms) e (ltb-false (m .id) x t)) ∙ l))
+
+pub gap-at : (ms : List Member) (x : ℕ) → live ms x ≡ false → Gap x ms (rank (ids ms) x)
+gap-at [] x l = gap-last
+gap-at (m ∷ ms) x l = go (ltb (m .id) x) refl (eqb (m .id) x) refl l (λ q. gap-at ms x q)
+  where
+    go : (b : Bool) → ltb (m .id) x ≡ b → (c : Bool) → eqb (m .id) x ≡ c → (c || live ms x) ≡ false → (live ms x ≡ false → Gap x ms (rank (ids ms) x)) → Gap x (m ∷ ms) (if b then suc (rank (ids ms) x) else 0)
+    go b t true u l i = absurd (false≢true (sym l))
+    go true t false u l i = gap-later (ltb-true (m .id) x t) (i l)
+    go false t false u l i =
+        let h = ltb-false (m .id) x t in
+        let n = eqb-false (m .id) x u in
+        gap-first {m = m} (omega arith)
+
+pub at-within : {x k : ℕ} {ms : List Member} → At x ms k → k < length ms
+at-within (at-first e) = omega arith
+at-within (at-later h a) = let i = at-within a in omega arith
+
+-- in a whole table
+pub within-count : (ws : List ℕ) {x k : ℕ} → At x (membersIn ws) k → k < getD ws 1 0
+within-count ws a = omega (arith, at-within a, members-length (getD ws 0 0) (getD ws 1 0) (drop headerSize ws))
+
+pub found : (ws : List ℕ) (x k : ℕ) → Formed ws → live (membersIn ws) x ≡ true → k ≡ rank (ids (membersIn ws)) x → At x (membersIn ws) k
+found ws x k f l e = rw e (live-at (membersIn ws) x (f .rises) l)
+
+pub missing : (ws : List ℕ) (x k : ℕ) → live (membersIn ws) x ≡ false → k ≡ rank (ids (membersIn ws)) x → Gap x (membersIn ws) k
+missing ws x k l e = rw e (gap-at (membersIn ws) x l)
+
+pub named-at : {x k : ℕ} {ms : List Member} → At x ms k → named ms x ≡ getD ms k nobody
+named-at (at-first e) = rw (eq-eqb _ _ e)
+named-at (at-later h a) = rw (below-eqb _ _ h) (named-at a)
+
+pub replaced-at : {k : ℕ} {ms : List Member} (v : Member) → At (v .id) ms k → replaced v ms ≡ take k ms ++ (v ∷ drop (suc k) ms)
+replaced-at v (at-first e) = rw (eq-eqb _ _ e)
+replaced-at v (at-later {m = m} h a) = rw (below-eqb _ _ h) (ap (λ (l : List Member). m ∷ l) (replaced-at v a))
+
+pub removed-at : {x k : ℕ} {ms : List Member} → At x ms k → removed x ms ≡ take k ms ++ drop (suc k) ms
+removed-at (at-first e) = rw (eq-eqb _ _ e)
+removed-at (at-later {m = m} h a) = rw (below-eqb _ _ h) (ap (λ (l : List Member). m ∷ l) (removed-at a))
+
+pub inserted-at : {k : ℕ} {ms : List Member} (v : Member) → Gap (v .id) ms k → inserted v ms ≡ take k ms ++ (v ∷ drop k ms)
+inserted-at v gap-last = refl
+inserted-at v (gap-first h) = rw (lt-ltb _ _ h)
+inserted-at v (gap-later {m = m} h a) = rw (le-ltb (v .id) (m .id) (omega arith)) (ap (λ (l : List Member). m ∷ l) (inserted-at v a))
