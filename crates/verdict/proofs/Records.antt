@@ -1,10 +1,12 @@
--- One turn of the loop over candidates. Assumes nothing.
-use Prim.Native.Nat.{ℕ, _+_, _-_, _≤_, _<_}
+-- The candidate of the record at the front, and one turn of the loop over candidates. Assumes nothing.
+use Prim.Native.Nat.{ℕ, _-_, _≤_, _<_}
 use mathlib.Core.Path.{_≡_, _∙_}
 use mathlib.Core.List.{List}
 use mathlib.Core.Bool.{Bool, true, false}
-use lib.ListN.{getD, take, drop}
+use lib.ListN.{getD, drop}
 use lib.Seq.{getD-take, getD-drop}
+use borrow.Author.Tests.{eq-eqb, ne-eqb}
+use Rattle.model.specs.Identifier.{between}
 use Rattle.model.specs.Lists.{every}
 use Rattle.model.specs.Table.{recordSize, memberOf, membersOf}
 use Rattle.model.specs.Ring.{successor, candidateInside}
@@ -13,6 +15,15 @@ use Rattle.laws.specs.Parts.{first-member}
 -- the first entry of a record is its word 4
 pub successor-word : (r : ℕ) (ws : List ℕ) → 1 ≤ r → successor (memberOf r ws) ≡ getD ws 4 0
 successor-word r ws h = getD-take r (drop 4 ws) 0 0 h ∙ getD-drop 4 ws 0 0
+
+-- a pending candidate, with its test b
+pub pending-inside : (ws : List ℕ) (b : Bool) → getD ws 2 0 ≡ 1 → b ≡ between (getD ws 0 0) (getD ws 3 0) (getD ws 4 0) → (r : ℕ) → 1 ≤ r → b ≡ candidateInside (memberOf r ws)
+unfolding candidateInside
+pending-inside ws b e t r h = rw (eq-eqb _ _ e, successor-word r ws h) t
+
+pub none-inside : (ws : List ℕ) → (getD ws 2 0 ≡ 1 → ⊥) → (r : ℕ) → 1 ≤ r → true ≡ candidateInside (memberOf r ws)
+unfolding candidateInside
+none-inside ws n r h = rw (ne-eqb _ _ n)
 
 module _ (r n : ℕ) (ws : List ℕ) (b : Bool) (h : 0 < n) (t : b ≡ candidateInside (memberOf r ws)) where
   pub inside-here : b ≡ false → false ≡ every candidateInside (membersOf r n ws)
