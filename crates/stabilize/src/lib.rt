@@ -70,9 +70,9 @@ fn reply_of(t: &[u32], m: Member) -> Reply
 {
     let h = m.successors[0];
     if m.pending == 1 {
-        let c = m.candidate;
-        if table::is_member(t, c) {
-            return Reply::Done(c);
+        let d = m.candidate;
+        if table::is_member(t, d) {
+            return Reply::Done(d);
         }
         return Reply::Done(h);
     }

@@ -1,33 +1,30 @@
+-- `count_step` meets its contract: the count rises by one, and stays at the largest word. Assumes nothing.
+use Prim.Native.Nat.{ℕ, suc, _+_, _<_, _≤_}
+use mathlib.Core.Path.{_≡_, sym, ap, _∙_}
+use native.Mathlib.Numerals.{add-one}
+use native.Mathlib.Omega.{arith}
+use borrow.Author.Tests.{lt-ltb, le-ltb}
 use borrow.Author.Needs.{needs}
+use lib.ListN.{getD, set}
+use lib.Seq.{set-getD}
+use Rattle.model.specs.Table.{wordLimit}
+use Rattle.model.specs.Steps.{nextStep}
 use Rattle.stabilize.proofs.count_step.Statement.{statement}
 use Rattle.stabilize.proofs.count_step.Tie as tie
-use Rattle.stabilize.proofs.count_step.Reads as reads
-use Rattle.stabilize.proofs.count_step.Lts as lts
 
--- src/lib.rt:95:13
-slice-read-s : tie.Need-slice-read-s
-slice-read-s c = search needs
+counts : (s : ℕ) → s < 4294967295 → s + 1 ≡ nextStep s
+unfolding nextStep
+counts s h = rw (add-one, lt-ltb (suc s) wordLimit (omega arith))
 
--- src/lib.rt:97:16
-add-t : tie.Need-add-t
-add-t c = search needs
+stops : (s : ℕ) → 4294967295 ≤ s → nextStep s ≡ s
+unfolding nextStep
+stops s h = rw (le-ltb (suc s) wordLimit (omega arith))
 
--- src/lib.rt:97:9
-slice-write-t : tie.Need-slice-write-t
-slice-write-t c = search needs
-
--- src/lib.rt:91:1
-same-length : tie.Need-same-length
-same-length c = search needs
-
--- src/lib.rt:91:1
 returns : tie.Need-returns
-returns c = ?
+returns c = let t = c .before .before .args .t .now in ap (set t 2) (counts (getD t 2 0) (c .if1 .taken))
 
--- src/lib.rt:91:1
 returns-2 : tie.Need-returns-2
-returns-2 c = ?
+returns-2 c = let t = c .before .before .args .t .now in sym (ap (set t 2) (stops (getD t 2 0) (c .if1 .left)) ∙ set-getD t 2 0)
 
 pub count-step-spec : {M : Type 1} → statement M
-count-step-spec =
-    tie.close (tie.spec slice-read-s add-t slice-write-t same-length returns returns-2)
+count-step-spec = tie.close (tie.spec (λ c. search needs) (λ c. search needs) (λ c. search needs) (λ c. search needs) returns returns-2)

@@ -1,64 +1,52 @@
+-- `step` meets its contract. Assumes nothing.
+use mathlib.Core.Path.{_≡_, sym, ap, _∙_}
+use mathlib.Core.Bool.{Bool, true, false}
+use borrow.Author.Tests.{eq-eqb, ne-eqb}
 use borrow.Author.Needs.{needs}
+use lib.ListN.{getD}
+use lib.Seq.{getD-take}
+use Rattle.model.specs.Identifier.{space}
+use Rattle.model.specs.Table.{membersIn}
+use Rattle.model.specs.Ring.{live, successor, isPending}
+use Rattle.member.specs.View.{view}
+use Rattle.stabilize.proofs.Laws.{step-pending, step-live, step-dead}
 use Rattle.stabilize.proofs.step.Statement.{statement}
 use Rattle.stabilize.proofs.step.Tie as tie
-use Rattle.stabilize.proofs.step.Reads as reads
-use Rattle.stabilize.proofs.step.Lts as lts
-use Rattle.member.proofs.Member.drop_head.Reads as drop-head-reads
-use Rattle.stabilize.proofs.from_predecessor.Reads as from-predecessor-reads
-use Rattle.stabilize.proofs.from_successor.Reads as from-successor-reads
-use Rattle.table.proofs.is_member.Reads as is-member-reads
 
--- src/lib.rt:56:9
-from-predecessor-requires : tie.Need-from-predecessor-requires
-from-predecessor-requires c κs = search needs
+idle : (c : tie.Else1) → let a = c .before .before .args in isPending (view (getD (a .t .now) 0 0) (a .t2)) ≡ false
+idle c = ne-eqb _ _ (c .if1 .left)
 
--- src/lib.rt:56:9
+-- what the test says of the successor
+asked : (c : tie.After-is-member) → let a = c .before .before .before .before .args in c .is-member .result ≡ live (membersIn (a .t .now)) (successor (view (getD (a .t .now) 0 0) (a .t2)))
+asked c =
+    let s = c .before .before .before .before in
+    c .is-member .ensures ∙ ap (live (membersIn (s .args .t .now))) (sym (getD-take (getD (s .args .t .now) 0 0) (s .args .t2 .successors) 0 0 (s .pre .r-low)))
+
 returns : tie.Need-returns
-returns c = ?
+returns c =
+    let s = c .before .before .before in
+    let r = getD (s .args .t .now) 0 0 in
+    c .from-predecessor .ensures ∙ step-pending (membersIn (s .args .t .now)) (view r (s .args .t2)) space (eq-eqb _ _ (c .before .if1 .taken))
 
--- src/lib.rt:58:13
-element-copy-out-h : tie.Need-element-copy-out-h
-element-copy-out-h c = search needs
-
--- src/lib.rt:59:8
-is-member-requires : tie.Need-is-member-requires
-is-member-requires c κs = search needs
-
--- src/lib.rt:60:9
 from-successor-requires : tie.Need-from-successor-requires
-from-successor-requires c κs = ?
+from-successor-requires c κs = (search needs, sym (c .before .is-member .ensures) ∙ c .if2 .taken)
 
--- src/lib.rt:60:9
 returns-2 : tie.Need-returns-2
-returns-2 c = ?
+returns-2 c =
+    let t = c .before in
+    let e = t .before .before .before in
+    let s = e .before .before in
+    let r = getD (s .args .t .now) 0 0 in
+    c .from-successor .ensures ∙ step-live (membersIn (s .args .t .now)) (view r (s .args .t2)) space (idle e) (sym (asked (t .before)) ∙ t .if2 .taken)
 
--- src/lib.rt:62:13
-shared-slice-read-r : tie.Need-shared-slice-read-r
-shared-slice-read-r c = search needs
-
--- src/lib.rt:62:13
-cast-r : tie.Need-cast-r
-cast-r c = search needs
-
--- src/lib.rt:63:5
-drop-head-requires : tie.Need-drop-head-requires
-drop-head-requires c κs = search needs
-
--- src/lib.rt:51:1
 returns-3 : tie.Need-returns-3
-returns-3 c = ?
+returns-3 c =
+    let t = c .before .before in
+    let e = t .before .before .before in
+    let s = e .before .before in
+    let r = getD (s .args .t .now) 0 0 in
+    c .drop-head .ensures ∙ step-dead (membersIn (s .args .t .now)) (view r (s .args .t2)) space (idle e) (sym (asked (t .before)) ∙ t .if2 .left)
 
 pub step-spec : {M : Type 1} → statement M
 step-spec =
-    tie.close
-    (tie.spec
-    from-predecessor-requires
-    returns
-    element-copy-out-h
-    is-member-requires
-    from-successor-requires
-    returns-2
-    shared-slice-read-r
-    cast-r
-    drop-head-requires
-    returns-3)
+    tie.close (tie.spec (λ c κs. search needs) returns (λ c. search needs) (λ c κs. search needs) from-successor-requires returns-2 (λ c. search needs) (λ c. search needs) (λ c κs. search needs) returns-3)
