@@ -1,8 +1,8 @@
--- Accepted calls: what holds where no cause declines one. Assumes nothing.
+-- Declined and accepted calls: what a number other than 0 leaves, and what holds where no cause applies. Assumes nothing.
 use mathlib.Core.Path.{_≡_, refl}
 use mathlib.Core.Bool.{Bool, true, false, not}
 use mathlib.Core.List.{List}
-use Prim.Native.Nat.{ℕ, suc, _-_, _≤_, _<_}
+use Prim.Native.Nat.{ℕ, zero, suc, _-_, _≤_, _<_}
 use native.Mathlib.Omega.{arith}
 use lib.ListN.{length}
 use lib.Dec.{ltb, leb}
@@ -11,9 +11,18 @@ use Rattle.model.specs.Lists.{if_then_else_}
 use Rattle.model.specs.Identifier.{between}
 use Rattle.model.specs.Table.{recordSize, size, tableOf, membersIn, wellFormed}
 use Rattle.model.specs.Ring.{live, named, successor}
+use Rattle.model.specs.Answer.{Answer, declined, answer, afterwards}
 use Rattle.model.specs.Steps.{without}
 use Rattle.model.specs.Refusals.{full, cutsOff, tooFewPrincipals, joinRefusal, memberRefusal, leaveRefusal}
 use Rattle.laws.specs.Lists.{or-false}
+
+pub declined-answer : (k : ℕ) (a : Answer) → (k ≡ 0 → ⊥) → declined k ≡ answer k a
+declined-answer zero a h = absurd (h refl)
+declined-answer (suc k) a h = refl
+
+pub unchanged : {A : Type 0} (k : ℕ) (new old : List A) → (k ≡ 0 → ⊥) → old ≡ afterwards k new old
+unchanged zero new old h = absurd (h refl)
+unchanged (suc k) new old h = refl
 
 pub none-applies : (n : ℕ) (b : Bool) (k : ℕ) → (if b then suc n else k) ≡ 0 → (b ≡ false) × (k ≡ 0)
 none-applies n true k h = absurd (omega arith)

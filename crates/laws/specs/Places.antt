@@ -1,5 +1,5 @@
 -- Rising identifiers by place: the next up from the one at a place stands at the next place, round the end, and so on for the next n.
-use mathlib.Core.Path.{_≡_, refl}
+use mathlib.Core.Path.{_≡_, refl, ap}
 use mathlib.Core.Logic.{_⊎_, inl, inr}
 use mathlib.Core.List.{List, [], _∷_, _++_}
 use Prim.Native.Nat.{ℕ, zero, suc, _≤_, _<_}
@@ -44,6 +44,11 @@ below-start (y ∷ l) d = rw (le-ltb y y (omega arith))
 taken : (l : List ℕ) (n : ℕ) → suc n ≤ length l → take (suc n) l ≡ getD l 0 0 ∷ take n (drop 1 l ++ l)
 taken [] n h = absurd (omega arith)
 taken (y ∷ l) n h = rw (take-append-le n l (y ∷ l) (omega arith))
+
+-- there are n of the next n up
+pub next-ups-length : (n : ℕ) (xs : List ℕ) (x : ℕ) → length (nextUps n xs x) ≡ n
+next-ups-length zero xs x = refl
+next-ups-length (suc n) xs x = ap suc (next-ups-length n xs (nextUp xs x))
 
 module _ (xs : List ℕ) (a : Rising xs) where
   pub next-up-place : (k : ℕ) → suc k < length xs → nextUp xs (getD xs k 0) ≡ getD xs (suc k) 0

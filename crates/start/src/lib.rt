@@ -1,12 +1,13 @@
 // Starting: the new table of rising identifiers.
 ghost use mathlib.Core.Path.{_≡_};
-ghost use mathlib.Core.Bool.{true, false};
-ghost use Prim.Native.Nat.{_+_, _≤_, _<_};
+ghost use mathlib.Core.Bool.{true};
+ghost use Prim.Native.Nat.{_≤_, _<_};
 ghost use lib.ListN.{length, getD};
 ghost use Rattle.model.specs.Lists.{rising, overlay};
 ghost use Rattle.model.specs.Table.{size, wordsOf};
+ghost use Rattle.model.specs.Ring.{nextUp, nextDown};
 ghost use Rattle.model.specs.New.{newMember, newTable};
-ghost use Rattle.model.specs.Refusals.{noNewTable, newRefusal};
+ghost use Rattle.model.specs.Refusals.{newRefusal};
 ghost use Rattle.model.specs.Calls.{newAnswer, newWords};
 ghost use Rattle.member.specs.View.{view};
 ghost use Rattle.reply.specs.Answers.{answerOf};
@@ -55,22 +56,43 @@ fn refusal(words: usize, r: u32, xs: &[u32]) -> u32
     11
 }
 
+// The place of the next identifier up from the one at place i, round the end.
+fn place_above(xs: &[u32], i: usize) -> usize
+    requires { ⌜ (rising (now xs) ≡ true) × (i < length (now xs)) ⌝ }
+    ensures { λ p. ⌜ (p < length (now (xs .entry))) × (getD (now (xs .entry)) p 0 ≡ nextUp (now (xs .entry)) (getD (now (xs .entry)) i 0)) ⌝ }
+{
+    let next = i + 1;
+    if next < xs.len() {
+        return next;
+    }
+    0
+}
+
+// The place of the next identifier down from the one at place i, round the end.
+fn place_below(xs: &[u32], i: usize) -> usize
+    requires { ⌜ (rising (now xs) ≡ true) × (i < length (now xs)) ⌝ }
+    ensures { λ p. ⌜ (p < length (now (xs .entry))) × (getD (now (xs .entry)) p 0 ≡ nextDown (now (xs .entry)) (getD (now (xs .entry)) i 0)) ⌝ }
+{
+    if i < 1 {
+        return xs.len() - 1;
+    }
+    i - 1
+}
+
 // The record of the identifier at place i: its neighbours are the next down and up, round the end.
 fn record_at(xs: &[u32], i: usize, r: usize) -> Member
-    requires { ⌜ rising (now xs) ≡ true ⌝ }
-    requires { ⌜ (r ≤ 8) × (r < length (now xs)) × (length (now xs) ≤ 256) × (i < length (now xs)) ⌝ }
+    requires { ⌜ (rising (now xs) ≡ true) × (r ≤ 8) × (i < length (now xs)) ⌝ }
     ensures { λ m. ⌜ view r m ≡ newMember r (now (xs .entry)) (getD (now (xs .entry)) i 0) ⌝ }
 {
-    let n = xs.len();
     let mut l = [0u32; 8];
     let mut k: usize = 0;
     let mut j = i;
     while k < r {
-        j = if j + 1 < n { j + 1 } else { 0 };
+        j = place_above(xs, j);
         l[k] = xs[j];
         k += 1;
     }
-    let below = if i == 0 { n - 1 } else { i - 1 };
+    let below = place_below(xs, i);
     Member {
         id: xs[i],
         predecessor: xs[below],
@@ -82,8 +104,7 @@ fn record_at(xs: &[u32], i: usize, r: usize) -> Member
 
 // The words of the new table, written; the words behind them stay.
 fn write_table(t: &mut [u32], r: usize, xs: &[u32])
-    requires { ⌜ rising (now xs) ≡ true ⌝ }
-    requires { ⌜ (r ≤ 8) × (r < length (now xs)) × (length (now xs) ≤ 256) × (size (newTable r (now xs)) ≤ length (now t)) ⌝ }
+    requires { ⌜ (rising (now xs) ≡ true) × (r ≤ 8) × (length (now xs) ≤ 256) × (size (newTable r (now xs)) ≤ length (now t)) ⌝ }
     ensures { λ _. ⌜ now (t .exit) ≡ overlay (wordsOf (newTable r (now (xs .entry)))) (now (t .entry)) ⌝ }
 {
     let n = xs.len();

@@ -15,6 +15,7 @@ use Rattle.model.specs.Ring.{live, successor, skips, principal, hasLive, candid
 use Rattle.model.specs.New.{nextUps, newMember, newTable}
 use Rattle.model.specs.Refusals.{noNewTable, newRefusal}
 use Rattle.model.specs.Calls.{newWords}
+use Rattle.laws.specs.Places.{next-ups-length}
 use Rattle.laws.specs.Order.{Outside, below, beyond, rest, outside-false}
 use Rattle.laws.specs.Lists.{and-true, true-and, In, here, there, in-cons, in-nil, in-live, every-in, in-every, in-any, count-le, count-all, Rising, above-in, above-rising, rising-true}
 use Rattle.laws.specs.Tables.{Formed, FormedMember, Sound, facts-sound, formed-lists}
@@ -64,10 +65,6 @@ map-ids r xs (x ∷ l) = ap (λ (k : List ℕ). x ∷ k) (map-ids r xs l)
 in-map : {A B : Type 0} (f : A → B) {y : B} (l : List A) → In y (map f l) → (x : A) × In x l × (y ≡ f x)
 in-map f [] i = absurd (in-nil i)
 in-map f (x ∷ l) i = ⊎-elim (λ e. (x, here refl, e)) (λ j. let w = in-map f l j in (w .0, there (w .1), w .2)) (in-cons i)
-
-ups-length : (n : ℕ) (xs : List ℕ) (x : ℕ) → length (nextUps n xs x) ≡ n
-ups-length zero xs x = refl
-ups-length (suc n) xs x = ap suc (ups-length n xs (nextUp xs x))
 
 -- the first of rising numbers is the lowest
 lowest : (q : ℕ) (xs : List ℕ) → Rising xs → In q xs → getD xs 0 0 ≤ q
@@ -134,7 +131,7 @@ module _ (r : ℕ) (xs : List ℕ) (ok : Acceptable r xs) where
       one x i = record {
         pending-bit = omega arith;
         no-candidate = λ q. refl;
-        list-length = ups-length r xs x;
+        list-length = next-ups-length r xs x;
         id-small = small x i;
         predecessor-small = small (nextDown xs x) (down-in xs some x);
         candidate-small = omega (arith, small x i);
@@ -155,7 +152,7 @@ module _ (r : ℕ) (xs : List ℕ) (ok : Acceptable r xs) where
     where
       lively : (x : ℕ) → hasLive (newTable r xs .members) (newMember r xs x) ≡ true
       lively x =
-          let i = head-in (nextUps r xs x) (omega (arith, ups-length r xs x, ok .r-low)) in
+          let i = head-in (nextUps r xs x) (omega (arith, next-ups-length r xs x, ok .r-low)) in
           in-any (live (newTable r xs .members)) i (in-live (newTable r xs .members) (rw (map-ids r xs xs) (ups-in xs some r x (getD (nextUps r xs x) 0 0) i)))
 
   pub new-ideal : ideal (newTable r xs) ≡ true

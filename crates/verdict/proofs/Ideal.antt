@@ -16,7 +16,7 @@ use Rattle.laws.specs.Lists.{Rising, rising-true, length-ids}
 use Rattle.laws.specs.Places.{next-up-place, next-up-end, next-down-place, next-down-start}
 use Rattle.laws.specs.Words.{members-length}
 use Rattle.laws.specs.Parts.{first-member}
-use Rattle.verdict.proofs.Records.{successor-word}
+use Rattle.laws.specs.Parts.{successor-word}
 
 -- the identifier of the first member, or d
 abbrev pub firstId : ℕ → List Member → ℕ

@@ -1,20 +1,15 @@
 -- The candidate of the record at the front, and one turn of the loop over candidates. Assumes nothing.
 use Prim.Native.Nat.{ℕ, _-_, _≤_, _<_}
-use mathlib.Core.Path.{_≡_, _∙_}
+use mathlib.Core.Path.{_≡_}
 use mathlib.Core.List.{List}
 use mathlib.Core.Bool.{Bool, true, false}
 use lib.ListN.{getD, drop}
-use lib.Seq.{getD-take, getD-drop}
 use borrow.Author.Tests.{eq-eqb, ne-eqb}
 use Rattle.model.specs.Identifier.{between}
 use Rattle.model.specs.Lists.{every}
 use Rattle.model.specs.Table.{recordSize, memberOf, membersOf}
-use Rattle.model.specs.Ring.{successor, candidateInside}
-use Rattle.laws.specs.Parts.{first-member}
-
--- the first entry of a record is its word 4
-pub successor-word : (r : ℕ) (ws : List ℕ) → 1 ≤ r → successor (memberOf r ws) ≡ getD ws 4 0
-successor-word r ws h = getD-take r (drop 4 ws) 0 0 h ∙ getD-drop 4 ws 0 0
+use Rattle.model.specs.Ring.{candidateInside}
+use Rattle.laws.specs.Parts.{first-member, successor-word}
 
 -- a pending candidate, with its test b
 pub pending-inside : (ws : List ℕ) (b : Bool) → getD ws 2 0 ≡ 1 → b ≡ between (getD ws 0 0) (getD ws 3 0) (getD ws 4 0) → (r : ℕ) → 1 ≤ r → b ≡ candidateInside (memberOf r ws)

@@ -11,11 +11,11 @@ use Rattle.model.specs.Answer.{accepted}
 use Rattle.model.specs.Steps.{inserted, joined, withMembers}
 use Rattle.model.specs.Refusals.{joinRefusal}
 use Rattle.model.specs.Calls.{written, joinAnswer, joinWords}
-use Rattle.laws.specs.Accepted.{MayJoin, join-accepted, has-room}
+use Rattle.laws.specs.Accepted.{declined-answer, unchanged, MayJoin, join-accepted, has-room}
 use Rattle.laws.specs.Words.{members-length}
 use Rattle.table.specs.Formed.{Formed}
 use Rattle.table.proofs.Members.{size-words}
-use Rattle.refusal.proofs.Laws.{declined-answer, unchanged, join-formed}
+use Rattle.refusal.proofs.Laws.{join-formed}
 use Rattle.join.proofs.join.Statement.{statement}
 use Rattle.join.proofs.join.Tie as tie
 

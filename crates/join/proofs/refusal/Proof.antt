@@ -1,12 +1,11 @@
 -- `refusal` meets its contract: each exit is a cause of the list, behind those before it. Assumes nothing.
-use Prim.Native.Nat.{ℕ}
 use mathlib.Core.Path.{_≡_, sym, ap, _∙_}
 use mathlib.Core.Bool.{true, false}
 use borrow.Author.Needs.{needs}
 use lib.ListN.{getD}
 use lib.Seq.{getD-take}
 use Rattle.model.specs.Identifier.{between}
-use Rattle.model.specs.Table.{Member, membersIn, wellFormed}
+use Rattle.model.specs.Table.{membersIn, wellFormed}
 use Rattle.model.specs.Ring.{live, named, successor}
 use Rattle.model.specs.Refusals.{joinRefusal}
 use Rattle.table.specs.Formed.{Formed}

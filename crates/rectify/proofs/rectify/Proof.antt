@@ -12,11 +12,11 @@ use Rattle.model.specs.Answer.{accepted}
 use Rattle.model.specs.Steps.{renews, rectify, rectifyIn, replaced, withMembers, withPredecessor}
 use Rattle.model.specs.Refusals.{memberRefusal}
 use Rattle.model.specs.Calls.{written, rectifyAnswer, rectifyWords}
-use Rattle.laws.specs.Accepted.{member-accepted}
+use Rattle.laws.specs.Accepted.{declined-answer, unchanged, member-accepted}
 use Rattle.laws.specs.Lists.{found, live-in}
 use Rattle.member.specs.View.{view}
 use Rattle.table.specs.Formed.{Formed}
-use Rattle.refusal.proofs.Laws.{declined-answer, unchanged, refused-formed}
+use Rattle.refusal.proofs.Laws.{refused-formed}
 use Rattle.rectify.proofs.rectify.Statement.{statement}
 use Rattle.rectify.proofs.rectify.Tie as tie
 

@@ -1,10 +1,9 @@
 -- `from_successor` meets its contract. Assumes nothing.
-use Prim.Native.Nat.{ℕ}
 use mathlib.Core.Path.{_≡_, sym, ap, _∙_}
 use borrow.Author.Needs.{needs}
 use lib.ListN.{getD}
 use lib.Seq.{getD-take}
-use Rattle.model.specs.Table.{Member, membersIn}
+use Rattle.model.specs.Table.{membersIn}
 use Rattle.model.specs.Ring.{successor}
 use Rattle.model.specs.Steps.{adopt, awaitCandidate}
 use Rattle.member.specs.View.{view}

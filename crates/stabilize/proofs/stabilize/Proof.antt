@@ -13,11 +13,11 @@ use Rattle.model.specs.Answer.{accepted}
 use Rattle.model.specs.Steps.{stabilize, stabilizeReply, replaced, withMembers, nextStep}
 use Rattle.model.specs.Refusals.{memberRefusal}
 use Rattle.model.specs.Calls.{written, stabilizeAnswer, stabilizeWords}
-use Rattle.laws.specs.Accepted.{member-accepted}
+use Rattle.laws.specs.Accepted.{declined-answer, unchanged, member-accepted}
 use Rattle.laws.specs.Lists.{found, live-in}
 use Rattle.member.specs.View.{view}
 use Rattle.table.specs.Formed.{Formed}
-use Rattle.refusal.proofs.Laws.{declined-answer, unchanged, refused-formed}
+use Rattle.refusal.proofs.Laws.{refused-formed}
 use Rattle.stabilize.proofs.Laws.{same-id}
 use Rattle.stabilize.proofs.stabilize.Statement.{statement}
 use Rattle.stabilize.proofs.stabilize.Tie as tie
