@@ -5,9 +5,11 @@ ghost use mathlib.Core.Bool.{_&&_};
 ghost use mathlib.Core.List.{map};
 ghost use lib.ListN.{length};
 ghost use Rattle.model.specs.Lists.{same};
-ghost use Rattle.model.specs.Table.{recordSize, membersOf, ids};
+ghost use Rattle.model.specs.Table.{recordSize, membersOf, tableOf, ids};
 ghost use Rattle.model.specs.Ring.{successor};
+ghost use Rattle.model.specs.Alike.{alike as alikeOf};
 ghost use Rattle.model.specs.Calls.{alikeAnswer};
+ghost use Rattle.table.specs.Formed.{Formed};
 ghost use Rattle.reply.specs.Answers.{answerOf};
 use reply::Reply;
 
@@ -34,19 +36,32 @@ fn records_alike(us: &[u32], vs: &[u32], r: usize, n: usize) -> bool
     true
 }
 
+// Have two well-formed tables equal r, members and first entries?
+fn tables_alike(us: &[u32], vs: &[u32]) -> bool
+    requires { ⌜ Formed (now us) ⌝ }
+    requires { ⌜ Formed (now vs) ⌝ }
+    ensures { λ b. ⌜ b ≡ alikeOf (tableOf (now (us .entry))) (tableOf (now (vs .entry))) ⌝ }
+{
+    let r = us[0];
+    let s = vs[0];
+    if r != s {
+        return false;
+    }
+    let n = us[1];
+    let m = vs[1];
+    if n != m {
+        return false;
+    }
+    records_alike(&us[3..], &vs[3..], r as usize, n as usize)
+}
+
 // Are the tables alike: yes or no, or 1 if either is not well-formed.
 pub fn alike(us: &[u32], vs: &[u32]) -> Reply
     ensures { λ a. ⌜ answerOf a ≡ alikeAnswer (now (us .entry)) (now (vs .entry)) ⌝ }
 {
     if table::well_formed(us) {
         if table::well_formed(vs) {
-            if us[0] != vs[0] {
-                return Reply::No;
-            }
-            if us[1] != vs[1] {
-                return Reply::No;
-            }
-            if records_alike(&us[3..], &vs[3..], us[0] as usize, us[1] as usize) {
+            if tables_alike(us, vs) {
                 return Reply::Yes;
             }
             return Reply::No;

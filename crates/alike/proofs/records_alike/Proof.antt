@@ -1,117 +1,81 @@
+-- `records_alike` meets its contract. The invariant: the records left answer as all do. Assumes nothing.
+use Prim.Native.Nat.{_*_, _≤_, _<_}
+use mathlib.Core.Path.{_≡_, _∙_}
+use native.Mathlib.Omega.{arith}
+use lib.ListN.{length}
+use borrow.Author.Needs.{needs}
+use Rattle.model.specs.Table.{recordSize, membersOf}
+use Rattle.laws.specs.Parts.{part-from, one-fits, rest-fits}
+use Rattle.alike.proofs.Records.{sameMembers, ids-differ, successors-differ, both-equal}
 use Rattle.alike.proofs.records_alike.Statement.{statement}
 use Rattle.alike.proofs.records_alike.Tie as tie
-use Rattle.alike.proofs.records_alike.Reads as reads
-use Rattle.alike.proofs.records_alike.Lts as lts
 
 abbrev Inv-loop : tie.InvT-loop
-Inv-loop us vs r n w p₀ q₀ left₀ p q left = ?
+Inv-loop us vs r n w p₀ q₀ left₀ p q left = (left * recordSize r ≤ length p) × (left * recordSize r ≤ length q) × (sameMembers (membersOf r left p) (membersOf r left q) ≡ sameMembers (membersOf r n us) (membersOf r n vs))
 
 abbrev μ-loop : tie.MeasureT-loop
-μ-loop us vs r n w p₀ q₀ left₀ p q left = ?
+μ-loop us vs r n w p₀ q₀ left₀ p q left = left
 
--- src/lib.rt:19:13
-add-w : tie.Need-add-w Inv-loop μ-loop
-add-w c = ?
+-- the first records that are left
+one : (c : tie.In-loop Inv-loop μ-loop) → (recordSize (c .before .before .args .r) ≤ length (c .before .loop .p .now)) × (recordSize (c .before .before .args .r) ≤ length (c .before .loop .q .now))
+one c =
+    let k = c .before .loop in
+    let r = c .before .before .args .r in
+    (one-fits r (k .left) (k .p .now) (c .loop-test .taken) (k .inv .0), one-fits r (k .left) (k .q .now) (c .loop-test .taken) (k .inv .1))
 
--- src/lib.rt:23:5
-loop-holds : tie.Need-loop-holds Inv-loop μ-loop
-loop-holds c = ?
-
--- src/lib.rt:24:12
-shared-slice-read-if1 : tie.Need-shared-slice-read-if1 Inv-loop μ-loop
-shared-slice-read-if1 c = ?
-
--- src/lib.rt:24:20
-shared-slice-read-if1-2 : tie.Need-shared-slice-read-if1-2 Inv-loop μ-loop
-shared-slice-read-if1-2 c = ?
-
--- src/lib.rt:25:13
 returns : tie.Need-returns Inv-loop μ-loop
-returns c = ?
+returns c =
+    let i = c .before .before .before in
+    let k = i .before .loop in
+    let s = i .before .before in
+    ids-differ (s .args .r) (k .left) (k .p .now) (k .q .now) (i .loop-test .taken) (s .pre .0) (c .if1 .taken) ∙ k .inv .2
 
--- src/lib.rt:27:12
 shared-slice-read-if2 : tie.Need-shared-slice-read-if2 Inv-loop μ-loop
-shared-slice-read-if2 c = ?
+shared-slice-read-if2 c =
+    let i = c .before .before .before .before in
+    let h : 4 < length (i .before .loop .p .now) = omega (arith, one i .0, i .before .before .pre .0) in
+    h
 
--- src/lib.rt:27:20
 shared-slice-read-if2-2 : tie.Need-shared-slice-read-if2-2 Inv-loop μ-loop
-shared-slice-read-if2-2 c = ?
+shared-slice-read-if2-2 c =
+    let i = c .before .before .before .before .before in
+    let h : 4 < length (i .before .loop .q .now) = omega (arith, one i .1, i .before .before .pre .0) in
+    h
 
--- src/lib.rt:28:13
 returns-2 : tie.Need-returns-2 Inv-loop μ-loop
-returns-2 c = ?
+returns-2 c =
+    let i = c .before .before .before .before .before .before in
+    let k = i .before .loop in
+    let s = i .before .before in
+    successors-differ (s .args .r) (k .left) (k .p .now) (k .q .now) (i .loop-test .taken) (s .pre .0) (c .if2 .taken) ∙ k .inv .2
 
--- src/lib.rt:30:13
-mul-p : tie.Need-mul-p Inv-loop μ-loop
-mul-p c = ?
-
--- src/lib.rt:30:13
 sub-p : tie.Need-sub-p Inv-loop μ-loop
-sub-p c = ?
+sub-p c = one (c .before .before .before .before .before .before) .0
 
--- src/lib.rt:30:13
 part-p-start : tie.Need-part-p-start Inv-loop μ-loop
-part-p-start c = ?
+part-p-start c = one (c .before .before .before .before .before .before) .0
 
--- src/lib.rt:30:13
-part-p-end : tie.Need-part-p-end Inv-loop μ-loop
-part-p-end c = ?
-
--- src/lib.rt:31:13
-mul-q : tie.Need-mul-q Inv-loop μ-loop
-mul-q c = ?
-
--- src/lib.rt:31:13
 sub-q : tie.Need-sub-q Inv-loop μ-loop
-sub-q c = ?
+sub-q c = one (c .before .before .before .before .before .before .before) .1
 
--- src/lib.rt:31:13
 part-q-start : tie.Need-part-q-start Inv-loop μ-loop
-part-q-start c = ?
+part-q-start c = one (c .before .before .before .before .before .before .before) .1
 
--- src/lib.rt:31:13
-part-q-end : tie.Need-part-q-end Inv-loop μ-loop
-part-q-end c = ?
-
--- src/lib.rt:32:9
-sub-left : tie.Need-sub-left Inv-loop μ-loop
-sub-left c = ?
-
--- src/lib.rt:23:5
-loop-less : tie.Need-loop-less Inv-loop μ-loop
-loop-less c = ?
-
--- src/lib.rt:23:5
 loop-again : tie.Need-loop-again Inv-loop μ-loop
-loop-again c = ?
+loop-again c =
+    let e = c .before .before in
+    let f = e .before .before .before in
+    let i = f .before .before .before in
+    let k = i .before .loop in
+    let s = i .before .before in
+    (rw part-from (rest-fits (s .args .r) (k .left) (k .p .now) (i .loop-test .taken) (k .inv .0)), rw part-from (rest-fits (s .args .r) (k .left) (k .q .now) (i .loop-test .taken) (k .inv .1)), rw (part-from _ (k .p .now), part-from _ (k .q .now)) (both-equal (s .args .r) (k .left) (k .p .now) (k .q .now) (i .loop-test .taken) (s .pre .0) (f .if1 .left) (e .if2 .left) ∙ k .inv .2))
 
--- src/lib.rt:15:1
 returns-3 : tie.Need-returns-3 Inv-loop μ-loop
-returns-3 c = ?
+returns-3 c =
+    let k = c .before .loop in
+    let z : k .left ≡ 0 = omega arith in
+    rw z at (k .inv .2)
 
 pub records-alike-spec : {M : Type 1} → statement M
 records-alike-spec =
-    tie.close
-    (tie.spec
-    Inv-loop
-    μ-loop
-    add-w
-    loop-holds
-    shared-slice-read-if1
-    shared-slice-read-if1-2
-    returns
-    shared-slice-read-if2
-    shared-slice-read-if2-2
-    returns-2
-    mul-p
-    sub-p
-    part-p-start
-    part-p-end
-    mul-q
-    sub-q
-    part-q-start
-    part-q-end
-    sub-left
-    loop-less
-    loop-again
-    returns-3)
+    tie.close (tie.spec Inv-loop μ-loop (λ c. search needs) (λ c. search needs) (λ c. omega (arith, one (c .before))) (λ c. omega (arith, one (c .before .before))) returns shared-slice-read-if2 shared-slice-read-if2-2 returns-2 (λ c. search needs) sub-p part-p-start (λ c. search needs) (λ c. search needs) sub-q part-q-start (λ c. search needs) (λ c. search needs) (λ c. search needs) loop-again returns-3)
