@@ -1,0 +1,234 @@
+-- Members by place: an identifier's place, the member there, its best successor, and one turn of each walk. Assumes nothing.
+use Prim.Native.Nat.{ℕ, zero, suc, _+_, _*_, _-_, _≤_, _<_}
+use mathlib.Core.Path.{_≡_, refl, sym, ap, _∙_}
+use mathlib.Core.List.{List, [], _∷_}
+use mathlib.Core.Bool.{Bool, true, false, _&&_, _||_, false≢true}
+use mathlib.Core.Logic.{_⊎_, inl, inr}
+use mathlib.Core.Option.{some, none}
+use native.Mathlib.Nat.{le-of-suc-le-suc}
+use native.Mathlib.Numerals.{add-one}
+use native.Mathlib.Omega.{arith}
+use borrow.Author.Tests.{eqb-true, eq-eqb, ne-eqb, lt-ltb, le-ltb}
+use lib.Dec.{ltb, eqb}
+use lib.ListN.{length, getD, take, drop, set, drop-of-length-le}
+use lib.Seq.{drop-cons, drop-drop, getD-set-same, getD-set-other}
+use Rattle.model.specs.Lists.{if_then_else_, option, every, any, bit, count, contains}
+use Rattle.model.specs.Table.{Member, headerSize, recordSize, memberOf, membersIn, ids}
+use Rattle.model.specs.Ring.{live, nobody, named, hasLive, firstLive, bestSuccessor, reaches, onRing}
+use Rattle.laws.specs.Lists.{or-false, Rising, rising-true, above-in, above-rising, length-ids}
+use Rattle.laws.specs.Order.{equal?}
+use Rattle.laws.specs.Places.{place-in}
+use Rattle.laws.specs.Parts.{first-member}
+use Rattle.laws.specs.Words.{members-length}
+use Rattle.table.specs.Formed.{Formed}
+use Rattle.table.specs.Rank.{rank}
+use Rattle.table.proofs.Members.{ids-count, members-drop}
+use Rattle.table.proofs.Place.{contains-rank}
+use Rattle.ring.specs.Places.{placeOf, firstPlace, BestPlaces}
+
+-- Identifiers by place
+
+pub place-none : (l : List ℕ) (x : ℕ) → contains l x ≡ false → placeOf l x ≡ length l
+place-none [] x h = refl
+place-none (y ∷ l) x h = let w = or-false (eqb y x) (contains l x) h in rw (w .0) (ap suc (place-none l x (w .1)))
+
+pub place-found : (l : List ℕ) (x : ℕ) → contains l x ≡ true → (placeOf l x < length l) × (getD l (placeOf l x) 0 ≡ x)
+place-found [] x h = absurd (false≢true h)
+place-found (y ∷ l) x h = go (eqb y x) refl h (place-found l x)
+  where
+    go : (b : Bool) → eqb y x ≡ b → (b || contains l x) ≡ true → (contains l x ≡ true → (placeOf l x < length l) × (getD l (placeOf l x) 0 ≡ x)) → ((if b then 0 else suc (placeOf l x)) < suc (length l)) × (getD (y ∷ l) (if b then 0 else suc (placeOf l x)) 0 ≡ x)
+    go true e k i = (omega arith, eqb-true y x e)
+    go false e k i = let w = i k in (omega arith, w .1)
+
+-- among rising identifiers each stands at its place
+pub place-at : (l : List ℕ) (k : ℕ) → Rising l → k < length l → placeOf l (getD l k 0) ≡ k
+place-at [] k a h = absurd (omega arith)
+place-at (y ∷ l) zero a h = rw (eq-eqb y y refl)
+place-at (y ∷ l) (suc k) a h =
+    let b : y < getD l k 0 = above-in l a (place-in l k (le-of-suc-le-suc h)) in
+    rw (ne-eqb y (getD l k 0) (λ (e : y ≡ getD l k 0). omega arith)) (ap suc (place-at l k (above-rising y l a) (le-of-suc-le-suc h)))
+
+-- and two at two places are not the same
+pub same-place : (l : List ℕ) (j k : ℕ) → Rising l → j < length l → k < length l → getD l j 0 ≡ getD l k 0 → j ≡ k
+same-place l j k a hj hk e = sym (place-at l j a hj) ∙ ap (placeOf l) e ∙ place-at l k a hk
+
+pub named-place : (ms : List Member) (k : ℕ) → Rising (ids ms) → k < length ms → named ms (getD (ids ms) k 0) ≡ getD ms k nobody
+named-place [] k a h = absurd (omega arith)
+named-place (m ∷ ms) zero a h = rw (eq-eqb (m .id) (m .id) refl)
+named-place (m ∷ ms) (suc k) a h =
+    let x : ℕ = getD (ids ms) k 0 in
+    let b : m .id < x = above-in (ids ms) a (place-in (ids ms) k (omega (arith, length-ids ms))) in
+    rw (ne-eqb (m .id) x (λ (e : m .id ≡ x). omega arith)) (named-place ms k (above-rising (m .id) (ids ms) a) (le-of-suc-le-suc h))
+
+-- First live entries by place
+
+first-found : (ms : List Member) (l : List ℕ) → any (live ms) l ≡ true → (firstPlace ms l < length ms) × (firstLive ms l ≡ some (getD (ids ms) (firstPlace ms l) 0))
+first-found ms [] h = absurd (false≢true h)
+first-found ms (x ∷ l) h = go (live ms x) refl h (first-found ms l)
+  where
+    go : (b : Bool) → live ms x ≡ b → (b || any (live ms) l) ≡ true → (any (live ms) l ≡ true → (firstPlace ms l < length ms) × (firstLive ms l ≡ some (getD (ids ms) (firstPlace ms l) 0))) → ((if b then placeOf (ids ms) x else firstPlace ms l) < length ms) × ((if b then some x else firstLive ms l) ≡ some (getD (ids ms) (if b then placeOf (ids ms) x else firstPlace ms l) 0))
+    go true e k i = let w = place-found (ids ms) x e in (omega (arith, length-ids ms), ap some (sym (w .1)))
+    go false e k i = i k
+
+first-none : (ms : List Member) (l : List ℕ) → any (live ms) l ≡ false → (firstPlace ms l ≡ length ms) × (firstLive ms l ≡ none)
+first-none ms [] h = (refl, refl)
+first-none ms (x ∷ l) h = let w = or-false (live ms x) (any (live ms) l) h in rw (w .0) (first-none ms l (w .1))
+
+-- the place j of a list's first entry settles it, or leaves the others
+module _ (ms : List Member) (j : ℕ) where
+  first-entry : (p : List ℕ) → 0 < length p → j ≡ placeOf (ids ms) (getD p 0 0) → j < length ms → j ≡ firstPlace ms p
+  first-entry [] h e l = absurd (omega arith)
+  first-entry (x ∷ p) h e l = go (live ms x) refl
+    where
+      go : (b : Bool) → live ms x ≡ b → j ≡ (if b then placeOf (ids ms) x else firstPlace ms p)
+      go true t = e
+      go false t = absurd (omega (arith, place-none (ids ms) x t, length-ids ms))
+
+  later-entry : (p : List ℕ) → 0 < length p → j ≡ placeOf (ids ms) (getD p 0 0) → length ms ≤ j → firstPlace ms (drop 1 p) ≡ firstPlace ms p
+  later-entry [] h e l = absurd (omega arith)
+  later-entry (x ∷ p) h e l = go (live ms x) refl
+    where
+      go : (b : Bool) → live ms x ≡ b → firstPlace ms p ≡ (if b then placeOf (ids ms) x else firstPlace ms p)
+      go true t = absurd (omega (arith, place-found (ids ms) x t .0, length-ids ms))
+      go false t = refl
+
+-- Reached from x in one of so many moves: in the first, or in the others
+reaches-move : (ms : List Member) (left z x : ℕ) → 0 < left → reaches ms left z x ≡ option (bestSuccessor ms x) false (λ y. eqb y z || reaches ms (left - 1) z y)
+reaches-move ms zero z x h = absurd (omega arith)
+reaches-move ms (suc left) z x h = let e : suc left - 1 ≡ left = omega arith in rw e
+
+pub reaches-end : (ms : List Member) (left z x : ℕ) → left ≤ 0 → false ≡ reaches ms left z x
+reaches-end ms zero z x h = refl
+reaches-end ms (suc left) z x h = absurd (omega arith)
+
+-- In a whole table
+
+module _ (ws : List ℕ) where
+  abbrev ms : List Member
+  ms = membersIn ws
+
+  abbrev idAt : ℕ → ℕ
+  idAt k = getD (ids ms) k 0
+
+  abbrev n : ℕ
+  n = getD ws 1 0
+
+  pub member-count : length ms ≡ n
+  member-count = members-length (getD ws 0 0) (getD ws 1 0) (drop headerSize ws)
+
+  rises : Formed ws → Rising (ids ms)
+  rises f = rising-true (ids ms) (f .rises)
+
+  -- `place`: the identifier found by halves is at its place, or nowhere
+  module _ (f : Formed ws) (x k : ℕ) where
+    pub placed : k < n → idAt k ≡ x → k ≡ placeOf (ids ms) x
+    placed h e = rw (← e) (sym (place-at (ids ms) k (rises f) (omega (arith, ids-count ws))))
+
+    pub unplaced : k ≡ rank (ids ms) x → (ltb k n && eqb (idAt k) x) ≡ false → n ≡ placeOf (ids ms) x
+    unplaced e h =
+        let z : contains (ids ms) x ≡ false = contains-rank (ids ms) x (f .rises) ∙ rw (ids-count ws, ← e) h in
+        sym (place-none (ids ms) x z ∙ ids-count ws)
+
+  -- `first_place`
+  module _ (p : List ℕ) (j : ℕ) (h : 0 < length p) (e : j ≡ placeOf (ids ms) (getD p 0 0)) where
+    pub first-here : j < n → j ≡ firstPlace ms p
+    first-here l = first-entry ms j p h e (omega (arith, member-count))
+
+    pub first-on : n ≤ j → firstPlace ms (drop 1 p) ≡ firstPlace ms p
+    first-on l = later-entry ms j p h e (omega (arith, member-count))
+
+  pub first-end : (p : List ℕ) → length p ≤ 0 → n ≡ firstPlace ms p
+  first-end [] h = sym member-count
+  first-end (x ∷ p) h = absurd (omega arith)
+
+  -- `best_place`: the list of the member at place k, as a part of the table
+  pub list-at : (k at : ℕ) → k < n → at ≡ headerSize + k * recordSize (getD ws 0 0) → take (at + 4 + getD ws 0 0 - (at + 4)) (drop (at + 4) ws) ≡ getD ms k nobody .successors
+  list-at k at h e =
+      let r : ℕ = getD ws 0 0 in
+      let body : List ℕ = drop headerSize ws in
+      let z : at + 4 + r - (at + 4) ≡ r = omega arith in
+      let m : getD ms k nobody ≡ memberOf r (drop (k * recordSize r) body) = ap (λ (l : List Member). getD l 0 nobody) (sym (drop-cons ms k nobody (omega (arith, member-count))) ∙ members-drop r k n body (omega arith) ∙ first-member r (n - k) (drop (k * recordSize r) body) (omega arith)) in
+      rw (m, z, drop-drop (k * recordSize r) headerSize ws, ← e, drop-drop 4 at ws)
+
+  -- `best_places`: with the entry at place k stored, one place more is right
+  abbrev pub Right : List ℕ → ℕ → Type 0
+  Right a k = (i : ℕ) → i < k → getD a i 0 ≡ firstPlace ms (getD ms i nobody .successors)
+
+  pub stored : (a : List ℕ) (k j : ℕ) → k < length a → Right a k → j ≡ firstPlace ms (getD ms k nobody .successors) → Right (set a k j) (k + 1)
+  stored a k j h r e i l = go (equal? i k)
+    where
+      go : (i ≡ k) ⊎ (i ≡ k → ⊥) → getD (set a k j) i 0 ≡ firstPlace ms (getD ms i nobody .successors)
+      go (inl q) = rw (q, getD-set-same a k j 0 h) e
+      go (inr q) = rw (getD-set-other a k i j 0 q) (r i (omega arith))
+
+  pub all-stored : (a : List ℕ) (k : ℕ) → Right a k → n ≤ k → BestPlaces ws a
+  all-stored a k r h = record { at = λ i l. r i (omega (arith, member-count)) }
+
+  -- an array's entry at a member's place
+  pub best-at : (a : List ℕ) → BestPlaces ws a → (k : ℕ) → k < n → getD a k 0 ≡ firstPlace ms (getD ms k nobody .successors)
+  best-at a b k h = b .at k (omega (arith, member-count))
+
+  -- `count_ring`: the test b of one identifier counts
+  pub counted : (g : ℕ → Bool) (k c d : ℕ) (b : Bool) → k < n → b ≡ g (idAt k) → d ≡ c + bit b → d + count g (drop (k + 1) (ids ms)) ≡ c + count g (drop k (ids ms))
+  counted g k c d b h t e = rw (add-one, drop-cons (ids ms) k 0 (omega (arith, ids-count ws)), ← t) (omega arith)
+
+  pub count-end : (g : ℕ → Bool) (k : ℕ) → n ≤ k → count g (drop k (ids ms)) ≡ 0
+  count-end g k h = rw (drop-of-length-le (ids ms) {i = k} (omega (arith, ids-count ws)))
+
+  -- the best successor of the member at place k, by its place j
+  module _ (k j : ℕ) (h : k < n) (e : j ≡ firstPlace ms (getD ms k nobody .successors)) where
+    pub has-live : hasLive ms (getD ms k nobody) ≡ ltb j n
+    has-live = go (hasLive ms (getD ms k nobody)) refl
+      where
+        go : (b : Bool) → hasLive ms (getD ms k nobody) ≡ b → b ≡ ltb j n
+        go true t = sym (lt-ltb j n (omega (arith, first-found ms (getD ms k nobody .successors) t .0, member-count)))
+        go false t = sym (le-ltb j n (omega (arith, first-none ms (getD ms k nobody .successors) t .0, member-count)))
+
+    module _ (f : Formed ws) where
+      named-here : named ms (idAt k) ≡ getD ms k nobody
+      named-here = named-place ms k (rises f) (omega (arith, member-count))
+
+      pub best : j < n → bestSuccessor ms (idAt k) ≡ some (idAt j)
+      best l = rw (named-here, e) (first-found ms (getD ms k nobody .successors) (has-live ∙ lt-ltb j n l) .1)
+
+      pub no-best : n ≤ j → bestSuccessor ms (idAt k) ≡ none
+      no-best l = rw named-here (first-none ms (getD ms k nobody .successors) (has-live ∙ le-ltb j n l) .1)
+
+    -- that place is no more than the member count
+    pub best-most : j ≤ n
+    best-most = go (hasLive ms (getD ms k nobody)) refl
+      where
+        go : (b : Bool) → hasLive ms (getD ms k nobody) ≡ b → j ≤ n
+        go true t = omega (arith, first-found ms (getD ms k nobody .successors) t .0, member-count)
+        go false t = omega (arith, first-none ms (getD ms k nobody .successors) t .0, member-count)
+
+    -- `all_live`: one member settles the test of all, or leaves the others
+    pub all-on : j < n → every (hasLive ms) (drop (k + 1) ms) ≡ every (hasLive ms) (drop k ms)
+    all-on l = rw (add-one, drop-cons ms k nobody (omega (arith, member-count)), has-live, lt-ltb j n l)
+
+    pub all-stop : n ≤ j → false ≡ every (hasLive ms) (drop k ms)
+    all-stop l = rw (drop-cons ms k nobody (omega (arith, member-count)), has-live, le-ltb j n l)
+
+    -- `on_ring`: one move settles whether the member at place z is reached, or goes on from the next place
+    module _ (f : Formed ws) (z left : ℕ) (zn : z < n) (some-left : 0 < left) where
+      one-move : reaches ms left (idAt z) (idAt k) ≡ option (bestSuccessor ms (idAt k)) false (λ y. eqb y (idAt z) || reaches ms (left - 1) (idAt z) y)
+      one-move = reaches-move ms left (idAt z) (idAt k) some-left
+
+      pub reach-stuck : n ≤ j → false ≡ reaches ms left (idAt z) (idAt k)
+      reach-stuck l = sym (one-move ∙ rw (no-best f l))
+
+      pub reach-there : j ≡ z → true ≡ reaches ms left (idAt z) (idAt k)
+      reach-there q = sym (one-move ∙ rw (best f (omega arith), eq-eqb (idAt j) (idAt z) (ap idAt q)))
+
+      pub reach-on : j < n → (j ≡ z → ⊥) → reaches ms (left - 1) (idAt z) (idAt j) ≡ reaches ms left (idAt z) (idAt k)
+      reach-on l q =
+          let d : idAt j ≡ idAt z → ⊥ = λ (y : idAt j ≡ idAt z). q (same-place (ids ms) j z (rises f) (omega (arith, ids-count ws)) (omega (arith, ids-count ws)) y) in
+          sym (one-move ∙ rw (best f l, ne-eqb (idAt j) (idAt z) d))
+
+  -- `all_live`: after the last member nothing is left to test
+  pub all-end : (k : ℕ) → n ≤ k → true ≡ every (hasLive ms) (drop k ms)
+  all-end k h = rw (drop-of-length-le ms {i = k} (omega (arith, member-count)))
+
+  -- `on_ring`: as many moves as there are members
+  pub reach-start : (x : ℕ) → reaches ms n x x ≡ onRing ms x
+  reach-start x = rw member-count
