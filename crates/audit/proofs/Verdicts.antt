@@ -1,0 +1,32 @@
+-- The verdict, one case at a time. Assumes nothing.
+use Prim.Native.Nat.{_+_, _≤_, _<_}
+use mathlib.Core.Path.{_≡_}
+use mathlib.Core.Bool.{true, false, and-false}
+use native.Mathlib.Omega.{arith}
+use borrow.Author.Tests.{le-leb, lt-leb}
+use Rattle.model.specs.Lists.{every}
+use Rattle.model.specs.Table.{Table}
+use Rattle.model.specs.Ring.{hasLive, principals, candidateInside, sound, ideal, verdict}
+
+module _ (T : Table) where
+  module _ (live : every (hasLive (T .members)) (T .members) ≡ true) (many : T .r < principals (T .members)) where
+    module _ (inside : every candidateInside (T .members) ≡ true) where
+      pub verdict-ideal : ideal T ≡ true → 2 ≡ verdict T
+      unfolding verdict sound
+      verdict-ideal e = rw (live, le-leb (T .r + 1) (principals (T .members)) (omega arith), inside, e)
+
+      pub verdict-sound : ideal T ≡ false → 1 ≡ verdict T
+      unfolding verdict sound
+      verdict-sound e = rw (live, le-leb (T .r + 1) (principals (T .members)) (omega arith), inside, e)
+
+    pub verdict-outside : every candidateInside (T .members) ≡ false → 0 ≡ verdict T
+    unfolding verdict sound
+    verdict-outside e = rw (live, le-leb (T .r + 1) (principals (T .members)) (omega arith), e)
+
+  pub verdict-few : principals (T .members) ≤ T .r → 0 ≡ verdict T
+  unfolding verdict sound
+  verdict-few h = rw (lt-leb (T .r + 1) (principals (T .members)) (omega arith), and-false)
+
+  pub verdict-cut-off : every (hasLive (T .members)) (T .members) ≡ false → 0 ≡ verdict T
+  unfolding verdict sound
+  verdict-cut-off e = rw e
