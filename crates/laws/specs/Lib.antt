@@ -5,5 +5,6 @@ pub mod Extended
 pub mod Places
 pub mod Words
 pub mod Tables
+pub mod Removed
 pub mod Parts
 pub mod Accepted

@@ -7,14 +7,15 @@ use Prim.Native.Nat.{ℕ, suc, _≤_, _<_}
 use native.Mathlib.Omega.{arith}
 use lib.ListN.{length}
 use lib.Dec.{ltb, eqb}
-use borrow.Author.Tests.{eqb-true, eqb-false, ltb-true, ltb-false, not-false}
+use borrow.Author.Tests.{eqb-true, ltb-true, ltb-false, not-false}
 use Rattle.model.specs.Lists.{if_then_else_, any, count}
 use Rattle.model.specs.Table.{Member, Table, ids}
 use Rattle.model.specs.Ring.{live, skips, principal, hasLive, candidateInside}
 use Rattle.model.specs.Steps.{withMembers, inserted, replaced, removed, without}
 use Rattle.model.specs.Refusals.{cutsOff, tooFewPrincipals}
-use Rattle.laws.specs.Lists.{In, here, there, in-cons, in-nil, live-in, in-live, count-le, every-in, in-every, any-in, in-any, Rising, Above, above-in, above-rising, in-above}
+use Rattle.laws.specs.Lists.{In, here, there, in-cons, in-nil, live-in, in-live, count-le, every-in, in-every, any-in, in-any, Rising, Above}
 use Rattle.laws.specs.Tables.{FormedMember, Formed, Sound}
+use Rattle.laws.specs.Removed.{removed-from}
 
 -- what every step keeps
 pub record Kept (w : ℕ) (T : Table) : Type 0 where
@@ -148,51 +149,6 @@ inserted-rising v (m ∷ ms) a n = go (ltb (v .id) (m .id)) refl
     go : (b : Bool) → ltb (v .id) (m .id) ≡ b → Rising (ids (if b then v ∷ m ∷ ms else m ∷ inserted v ms))
     go true e = (ltb-true (v .id) (m .id) e, a)
     go false e = let ne : v .id ≡ m .id → ⊥ = λ q. n (here q) in inserted-above (m .id) v ms (omega (arith, ltb-false (v .id) (m .id) e)) a (λ i. n (there i))
-
--- The members without one
-
-removed-from : (n : ℕ) (m : Member) (ms : List Member) → In m (removed n ms) → In m ms
-removed-from n m [] i = i
-removed-from n m (k ∷ ms) i = go (eqb (k .id) n) i (removed-from n m ms)
-  where
-    go : (b : Bool) → In m (if b then ms else k ∷ removed n ms) → (In m (removed n ms) → In m ms) → In m (k ∷ ms)
-    go true i ih = there i
-    go false i ih = ⊎-elim (λ e. here e) (λ j. there (ih j)) (in-cons i)
-
-removed-ids : (n x : ℕ) (ms : List Member) → In x (ids (removed n ms)) → In x (ids ms)
-removed-ids n x [] i = i
-removed-ids n x (k ∷ ms) i = go (eqb (k .id) n) i (removed-ids n x ms)
-  where
-    go : (b : Bool) → In x (ids (if b then ms else k ∷ removed n ms)) → (In x (ids (removed n ms)) → In x (ids ms)) → In x (k .id ∷ ids ms)
-    go true i ih = there i
-    go false i ih = ⊎-elim (λ e. here e) (λ j. there (ih j)) (in-cons i)
-
-pub removed-length : (n : ℕ) (ms : List Member) → In n (ids ms) → suc (length (removed n ms)) ≡ length ms
-removed-length n [] i = absurd (in-nil i)
-removed-length n (m ∷ ms) i = go (eqb (m .id) n) refl (in-cons i) (removed-length n ms)
-  where
-    go : (b : Bool) → eqb (m .id) n ≡ b → (n ≡ m .id) ⊎ In n (ids ms) → (In n (ids ms) → suc (length (removed n ms)) ≡ length ms) → suc (length (if b then ms else m ∷ removed n ms)) ≡ suc (length ms)
-    go true e k ih = refl
-    go false e (inl q) ih = absurd (eqb-false (m .id) n e (sym q))
-    go false e (inr k) ih = ap suc (ih k)
-
-removed-rising : (n : ℕ) (ms : List Member) → Rising (ids ms) → Rising (ids (removed n ms))
-removed-rising n [] a = tt
-removed-rising n (m ∷ ms) a = go (eqb (m .id) n) (removed-rising n ms (above-rising (m .id) (ids ms) a))
-  where
-    go : (b : Bool) → Rising (ids (removed n ms)) → Rising (ids (if b then ms else m ∷ removed n ms))
-    go true ih = above-rising (m .id) (ids ms) a
-    go false ih = in-above (ids (removed n ms)) ih (λ x i. above-in (ids ms) a (removed-ids n x ms i))
-
-pub removed-formed : (w n : ℕ) (T : Table) → Formed w T → In n (ids (T .members)) → Formed w (without n T)
-removed-formed w n T t i = record {
-  r-low = t .r-low;
-  r-high = t .r-high;
-  count-high = omega (arith, removed-length n (T .members) i);
-  steps-small = t .steps-small;
-  ids-rising = removed-rising n (T .members) (t .ids-rising);
-  each = λ m k. t .each m (removed-from n m (T .members) k);
-}
 
 -- 6 and 7 do not decline it
 pub removed-sound : (n : ℕ) (T : Table) → Sound T → cutsOff (without n T) ≡ false → tooFewPrincipals (without n T) ≡ false → Sound (without n T)

@@ -12,7 +12,7 @@ use Rattle.model.specs.Identifier.{space}
 use Rattle.model.specs.Table.{Member, Table, headerSize, recordSize, size, tableOf, membersIn, wellFormed}
 use Rattle.model.specs.Ring.{named, sound}
 use Rattle.model.specs.Answer.{answer, accepted, afterwards}
-use Rattle.model.specs.Steps.{joiner, joined, stabilize, stabilized, replaced, rectifyIn, rectified, removed, without}
+use Rattle.model.specs.Steps.{joiner, joined, stabilize, stabilized, replaced, rectifyIn, rectified, without}
 use Rattle.model.specs.Refusals.{joinRefusal, memberRefusal, leaveRefusal}
 use Rattle.model.specs.Calls.{written, writtenFreed, joinWords, stabilizeWords, rectifyWords, failAnswer, failWords, leaveAnswer, leaveWords}
 use Rattle.model.specs.Run.{Call, Join, Leave, Fail, Stabilize, Rectify, Lookup, Audit, numbersOf, callAnswer, callWords, run, grantedCall, granted}
@@ -20,8 +20,9 @@ use Rattle.laws.specs.Lists.{and-true, implied, length-ids, live-in}
 use Rattle.laws.specs.Accepted.{join-accepted, member-accepted, MayLeave, leave-accepted, has-room}
 use Rattle.laws.specs.Words.{written-table, writtenFreed-table}
 use Rattle.laws.specs.Tables.{wellFormed-facts, facts-wellFormed, sound-facts, facts-sound, formed-lists, written-formed, writtenFreed-formed}
+use Rattle.laws.specs.Removed.{removed-size}
 use Rattle.theory.specs.Claim.{Starts}
-use Rattle.theory.specs.Keep.{Kept, replaced-ids, inserted-length, removed-length}
+use Rattle.theory.specs.Keep.{Kept, replaced-ids, inserted-length}
 use Rattle.theory.specs.Steps.{joined-kept, stabilized-kept, rectified-kept, without-kept}
 
 -- what every call keeps of a slice
@@ -86,8 +87,7 @@ module _ (ws : List ℕ) (g : Good ws) where
 
   without-good : (n : ℕ) → MayLeave ws n → Good (writtenFreed (without n (tableOf ws)) ws)
   without-good n a =
-      let shrunk = more-size (tableOf ws .r) (length (membersIn ws)) (length (removed n (membersIn ws))) (sym (removed-length n (membersIn ws) (live-in (membersIn ws) n (a .is-member)))) in
-      writtenFreed-good (without n (tableOf ws)) ws (without-kept space (tableOf ws) k n (a .is-member) (a .none-cut-off) (a .enough-left)) (omega (arith, fits ws g))
+      writtenFreed-good (without n (tableOf ws)) ws (without-kept space (tableOf ws) k n (a .is-member) (a .none-cut-off) (a .enough-left)) (omega (arith, fits ws g, removed-size n (tableOf ws) (live-in (membersIn ws) n (a .is-member))))
 
   leave-good : (n : ℕ) → Good (leaveWords ws n)
   unfolding leaveWords

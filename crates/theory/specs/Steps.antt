@@ -17,8 +17,9 @@ use Rattle.model.specs.Refusals.{cutsOff, tooFewPrincipals}
 use Rattle.laws.specs.Order.{true-inside, outside-false, false-outside, inner, inner-from, after-lt, after-outside}
 use Rattle.laws.specs.Lists.{or-false, implied, In, there, in-cons, in-nil, in-left, in-append, length-ids, found, live-in, in-live, every-in, any-in, in-any}
 use Rattle.laws.specs.Tables.{FormedMember}
+use Rattle.laws.specs.Removed.{removed-formed}
 use Rattle.laws.specs.Extended.{last-in, in-take, skips-take, skips-append, skips-start}
-use Rattle.theory.specs.Keep.{Kept, Fresh, changed-sound, changed-formed, replaced-ids, replaced-changed, inserted-changed, inserted-length, inserted-rising, removed-formed, removed-sound}
+use Rattle.theory.specs.Keep.{Kept, Fresh, changed-sound, changed-formed, replaced-ids, replaced-changed, inserted-changed, inserted-length, inserted-rising, removed-sound}
 
 -- What adopting x makes of its list l: x, and then l without its last entry
 

@@ -1,0 +1,2 @@
+-- What the exports' contracts cite besides the model.
+pub mod Packed

@@ -1,0 +1,149 @@
+// The library for C: thin exports over the proved calls. include/ring.h declares them.
+ghost use mathlib.Core.Path.{_≡_};
+ghost use Rattle.model.specs.Calls.{joinAnswer, joinWords, stabilizeAnswer, stabilizeWords, rectifyAnswer, rectifyWords, failAnswer, failWords, leaveAnswer, leaveWords, lookupAnswer, auditAnswer, newAnswer, newWords, alikeAnswer};
+ghost use Rattle.reply.specs.Answers.{answerOf};
+ghost use Rattle.capi.specs.Packed.{packed};
+use reply::Reply;
+
+// Number 0 or the refusal; the values as document 01 lists them, unused ones 0; 8 has its member in values[0].
+#[repr(C)]
+pub struct Answer {
+    pub number: u32,
+    pub values: [u32; 4],
+}
+
+// A reply in numbers.
+fn numbers(a: Reply) -> Answer
+    ensures { λ r. ⌜ r ≡ packed (answerOf a) ⌝ }
+{
+    match a {
+        Reply::Members(n) => Answer {
+            number: 0,
+            values: [n, 0, 0, 0],
+        },
+        Reply::Bytes(n) => Answer {
+            number: 0,
+            values: [n, 0, 0, 0],
+        },
+        Reply::Field(tag, start, size, next) => Answer {
+            number: 0,
+            values: [tag, start, size, next],
+        },
+        Reply::Again => Answer {
+            number: 0,
+            values: [0, 0, 0, 0],
+        },
+        Reply::Look(c) => Answer {
+            number: 0,
+            values: [1, c, 0, 0],
+        },
+        Reply::Done(h) => Answer {
+            number: 0,
+            values: [2, h, 0, 0],
+        },
+        Reply::New => Answer {
+            number: 0,
+            values: [1, 0, 0, 0],
+        },
+        Reply::Same => Answer {
+            number: 0,
+            values: [0, 0, 0, 0],
+        },
+        Reply::Owner(b, q, moves) => Answer {
+            number: 0,
+            values: [b, q, moves, 0],
+        },
+        Reply::Report(members, principals, ring, verdict) => Answer {
+            number: 0,
+            values: [members, principals, ring, verdict],
+        },
+        Reply::Yes => Answer {
+            number: 0,
+            values: [1, 0, 0, 0],
+        },
+        Reply::No => Answer {
+            number: 0,
+            values: [0, 0, 0, 0],
+        },
+        Reply::Stuck(q) => Answer {
+            number: 8,
+            values: [q, 0, 0, 0],
+        },
+        Reply::Declined(k) => Answer {
+            number: k,
+            values: [0, 0, 0, 0],
+        },
+    }
+}
+
+// Join j by p.
+#[no_mangle]
+pub extern "C" fn ring_join(table: &mut [u32], j: u32, p: u32) -> Answer
+    ensures { λ a. ⌜ (a ≡ packed (joinAnswer (now (table .entry)) j p)) × (now (table .exit) ≡ joinWords (now (table .entry)) j p) ⌝ }
+{
+    numbers(join::join(table, j, p))
+}
+
+// One stabilize step of n.
+#[no_mangle]
+pub extern "C" fn ring_stabilize(table: &mut [u32], n: u32) -> Answer
+    ensures { λ a. ⌜ (a ≡ packed (stabilizeAnswer (now (table .entry)) n)) × (now (table .exit) ≡ stabilizeWords (now (table .entry)) n) ⌝ }
+{
+    numbers(stabilize::stabilize(table, n))
+}
+
+// n rectifies with a notice from q.
+#[no_mangle]
+pub extern "C" fn ring_rectify(table: &mut [u32], n: u32, q: u32) -> Answer
+    ensures { λ a. ⌜ (a ≡ packed (rectifyAnswer (now (table .entry)) n q)) × (now (table .exit) ≡ rectifyWords (now (table .entry)) n q) ⌝ }
+{
+    numbers(rectify::rectify(table, n, q))
+}
+
+// Loss of n.
+#[no_mangle]
+pub extern "C" fn ring_fail(table: &mut [u32], n: u32) -> Answer
+    ensures { λ a. ⌜ (a ≡ packed (failAnswer (now (table .entry)) n)) × (now (table .exit) ≡ failWords (now (table .entry)) n) ⌝ }
+{
+    numbers(depart::fail(table, n))
+}
+
+// Withdrawal of n.
+#[no_mangle]
+pub extern "C" fn ring_leave(table: &mut [u32], n: u32) -> Answer
+    ensures { λ a. ⌜ (a ≡ packed (leaveAnswer (now (table .entry)) n)) × (now (table .exit) ≡ leaveWords (now (table .entry)) n) ⌝ }
+{
+    numbers(depart::leave(table, n))
+}
+
+// Find key k from the member n.
+#[no_mangle]
+pub extern "C" fn ring_lookup(table: &[u32], n: u32, k: u32) -> Answer
+    ensures { λ a. ⌜ a ≡ packed (lookupAnswer (now (table .entry)) n k) ⌝ }
+{
+    numbers(lookup::lookup(table, n, k))
+}
+
+// Audit.
+#[no_mangle]
+pub extern "C" fn ring_audit(table: &[u32]) -> Answer
+    ensures { λ a. ⌜ a ≡ packed (auditAnswer (now (table .entry))) ⌝ }
+{
+    numbers(audit::audit(table))
+}
+
+// The new table of r and rising identifiers.
+#[no_mangle]
+pub extern "C" fn ring_new(table: &mut [u32], r: u32, ids: &[u32]) -> Answer
+    ensures { λ a. ⌜ (a ≡ packed (newAnswer (now (table .entry)) r (now (ids .entry)))) × (now (table .exit) ≡ newWords (now (table .entry)) r (now (ids .entry))) ⌝ }
+{
+    numbers(start::new(table, r, ids))
+}
+
+// Are two tables alike?
+#[no_mangle]
+pub extern "C" fn ring_alike(a: &[u32], b: &[u32]) -> Answer
+    ensures { λ r. ⌜ r ≡ packed (alikeAnswer (now (a .entry)) (now (b .entry))) ⌝ }
+{
+    numbers(alike::alike(a, b))
+}

@@ -1,0 +1,69 @@
+-- What the copy of a table and a record's removal leave, and which of withdrawal's causes are loss's too. Assumes nothing.
+use Prim.Native.Nat.{ℕ}
+use mathlib.Core.Path.{_≡_, refl, sym, ap, _∙_}
+use mathlib.Core.Bool.{Bool, true, false, not}
+use mathlib.Core.List.{List, [], _∷_, _++_}
+use native.Mathlib.Omega.{arith}
+use borrow.Author.Tests.{not-false}
+use lib.ListN.{length, getD, take, drop, take-append-drop}
+use Rattle.model.specs.Identifier.{space}
+use Rattle.model.specs.Table.{Table, size, tableOf, membersIn, wellFormed}
+use Rattle.model.specs.Ring.{live}
+use Rattle.model.specs.Answer.{Cause, _when_, firstOf}
+use Rattle.model.specs.Steps.{without}
+use Rattle.model.specs.Refusals.{cutsOff, tooFewPrincipals, memberRefusal, leaveRefusal}
+use Rattle.model.specs.Calls.{writtenFreed}
+use Rattle.laws.specs.Lists.{live-in}
+use Rattle.laws.specs.Words.{words-read, words-written, writtenFreed-table}
+use Rattle.laws.specs.Tables.{wellFormed-facts, facts-wellFormed, holds-formed, formed-lists, writtenFreed-formed}
+use Rattle.laws.specs.Removed.{removed-formed, removed-size}
+use Rattle.laws.specs.Accepted.{none-applies}
+use Rattle.words.proofs.Records.{most-words}
+use Rattle.table.specs.Formed.{Formed}
+use Rattle.table.proofs.Formed.{formed}
+use Rattle.table.proofs.Members.{size-words}
+
+-- The words of a table, copied
+
+module _ (ws a : List ℕ) (f : Formed ws) (e : take (size (tableOf ws)) a ≡ take (size (tableOf ws)) ws) where
+  pub copied-table : tableOf a ≡ tableOf ws
+  copied-table =
+      let n : ℕ = size (tableOf ws) in
+      let w = wellFormed-facts ws (f .right) in
+      sym (ap tableOf (take-append-drop n a)) ∙ ap (λ (l : List ℕ). tableOf (l ++ drop n a)) (e ∙ sym (words-written ws (w .header) (w .fits))) ∙ words-read (tableOf ws) (drop n a) (formed-lists space (tableOf ws) (w .table))
+
+  pub copied-formed : length a ≡ 3075 → Formed a
+  copied-formed h =
+      let m = most-words (getD ws 1 0) (getD ws 0 0) (f .few) (f .r-high) in
+      formed a (facts-wellFormed a (holds-formed (tableOf ws) a copied-table (wellFormed-facts ws (f .right) .table) (omega (arith, size-words ws))))
+
+-- The record of a member, removed
+
+module _ (ws : List ℕ) (n : ℕ) (f : Formed ws) (l : live (membersIn ws) n ≡ true) where
+  pub removed-facts : Formed (writtenFreed (without n (tableOf ws)) ws) × (tableOf (writtenFreed (without n (tableOf ws)) ws) ≡ without n (tableOf ws))
+  removed-facts =
+      let i = live-in (membersIn ws) n l in
+      let w = wellFormed-facts ws (f .right) in
+      let T : Table = without n (tableOf ws) in
+      let k = removed-formed space n (tableOf ws) (w .table) i in
+      (formed (writtenFreed T ws) (facts-wellFormed (writtenFreed T ws) (writtenFreed-formed T ws k (omega (arith, removed-size n (tableOf ws) i, w .fits)))), writtenFreed-table T ws (formed-lists space T k))
+
+-- The causes of a withdrawal
+
+first-causes : (a b : Bool) (cs : List Cause) → (firstOf ((1 when a) ∷ (3 when b) ∷ []) ≡ 0 → ⊥) → firstOf ((1 when a) ∷ (3 when b) ∷ []) ≡ firstOf ((1 when a) ∷ (3 when b) ∷ cs)
+first-causes true b cs h = refl
+first-causes false true cs h = refl
+first-causes false false cs h = absurd (h refl)
+
+pub member-refused : (ws : List ℕ) (n : ℕ) → (memberRefusal ws n ≡ 0 → ⊥) → memberRefusal ws n ≡ leaveRefusal ws n
+unfolding memberRefusal leaveRefusal
+member-refused ws n h = first-causes (not (wellFormed ws)) (not (live (membersIn ws) n)) ((6 when cutsOff (without n (tableOf ws))) ∷ (7 when tooFewPrincipals (without n (tableOf ws))) ∷ []) h
+
+pub leave-formed : (ws : List ℕ) (n : ℕ) → leaveRefusal ws n ≡ 0 → Formed ws
+unfolding leaveRefusal
+leave-formed ws n h = formed ws (not-false _ (none-applies 0 (not (wellFormed ws)) _ h .0))
+
+-- the causes that are left are judged on a slice that holds the table as it would be afterwards
+pub left-causes : (ws a : List ℕ) (n : ℕ) → Formed ws → live (membersIn ws) n ≡ true → tableOf a ≡ without n (tableOf ws) → leaveRefusal ws n ≡ firstOf ((6 when cutsOff (tableOf a)) ∷ (7 when tooFewPrincipals (tableOf a)) ∷ [])
+unfolding leaveRefusal
+left-causes ws a n f l e = rw (f .right, l) (ap (λ (T : Table). firstOf ((6 when cutsOff T) ∷ (7 when tooFewPrincipals T) ∷ [])) (sym e))
