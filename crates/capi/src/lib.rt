@@ -2,7 +2,7 @@
 ghost use mathlib.Core.Path.{_≡_};
 ghost use Rattle.model.specs.Calls.{joinAnswer, joinWords, stabilizeAnswer, stabilizeWords, rectifyAnswer, rectifyWords, failAnswer, failWords, leaveAnswer, leaveWords, lookupAnswer, auditAnswer, newAnswer, newWords, alikeAnswer};
 ghost use Rattle.reply.specs.Answers.{answerOf};
-ghost use Rattle.capi.specs.Packed.{packed};
+ghost use Rattle.capi.specs.Packed.{packed, takeOverAnswer};
 use reply::Reply;
 
 // Number 0 or the refusal; the values as document 01 lists them, unused ones 0; 8 has its member in values[0].
@@ -146,4 +146,31 @@ pub extern "C" fn ring_alike(a: &[u32], b: &[u32]) -> Answer
     ensures { λ r. ⌜ r ≡ packed (alikeAnswer (now (a .entry)) (now (b .entry))) ⌝ }
 {
     numbers(alike::alike(a, b))
+}
+
+// Which of two replies' lists to take over: 1 for c's and 0 for h's, and the length of its part.
+#[no_mangle]
+pub extern "C" fn ring_take_over<'a>(
+    own: u32,
+    h: u32,
+    c: u32,
+    hs: &'a [u32],
+    cs: &'a [u32],
+) -> Answer
+    ensures { λ a. ⌜ a ≡ packed (takeOverAnswer own h c (now (hs .entry)) (now (cs .entry))) ⌝ }
+{
+    let part = take_over::take_over(own, h, c, hs, cs);
+    let n = part.len();
+    let low = (n % 4294967296) as u32;
+    let high = (n / 4294967296) as u32;
+    if take_over::chooses_candidate(own, h, c, cs) {
+        return Answer {
+            number: 0,
+            values: [1, low, high, 0],
+        };
+    }
+    Answer {
+        number: 0,
+        values: [0, low, high, 0],
+    }
 }
