@@ -1,0 +1,110 @@
+/* The ring table of networked archive shelves: the calls for C.
+
+   A table is a slice of 32-bit words that the caller lends, as a pointer and a count of words: a header of three words (r, member count,
+   step count), then one record of r + 4 words a member: identifier, predecessor, pending, candidate and r successors, by rising
+   identifier. Words behind the last record are the caller's. RING_TABLE_WORDS(r, members) says how many words a table takes; 3,075 words
+   hold every table. A call reads and writes nothing outside the slices it is lent, returns for every input, and never keeps a pointer.
+   Pointers are never null, also where a count is 0. Slices of one call must not overlap where one of them is written.
+
+   Every call answers in numbers. number is 0 and values holds the reply, unused values 0; or number is the refusal below, and then every
+   buffer is as it was. The lowest number that applies is given, but ring_new tries 11 before 10.
+
+      1  a table is not well-formed or longer than its slice
+      2  the joining identifier is a member
+      3  p, or the member called, is no member
+      4  not between(p, j, first entry of p)
+      5  256 members, or fewer than r + 4 words after the last record
+      6  withdrawal: a member left would have no live entry
+      7  withdrawal: fewer than r + 1 principals would be left
+      8  find stands at a member without a live entry: values[0] is that member
+      9  the image is not the writing of a well-formed table; or no such field stands at the position
+     10  the output slice is too short
+     11  new: r not 1 to 8, identifiers not strictly rising, fewer than r + 1, more than 256
+
+   From a sound table (ring_audit's verdict 1 or 2) no list of these calls leads to a ring that is split, as long as each ring_fail is one
+   that ring_leave would have granted in its place. */
+
+#ifndef RING_H
+#define RING_H
+
+#include <stddef.h>
+#include <stdint.h>
+
+#ifdef __cplusplus
+extern "C" {
+#endif
+
+#define RING_TABLE_WORDS(r, members) (3 + (size_t)(members) * ((size_t)(r) + 4))
+#define RING_TABLE_WORDS_MOST 3075
+#define RING_IMAGE_BYTES(r, members) (13 + (size_t)(members) * (16 + 4 * (size_t)(r)))
+#define RING_IMAGE_BYTES_MOST 12301
+
+/* What a call answers. */
+struct ring_answer {
+    uint32_t number;
+    uint32_t values[4];
+};
+
+/* What the audit finds of one member: whether it is a principal (1 or 0), and the moves from it to the ring: 0 on it, the member count
+   where the walk never comes there. */
+struct ring_finding {
+    uint32_t id;
+    uint32_t principal;
+    uint32_t moves;
+};
+
+/* The new, ideal table of r and count strictly rising identifiers, step count 0. The old words are never looked at; words behind the last
+   record stay. values: member count. 11, 10. */
+struct ring_answer ring_new(uint32_t *table, size_t words, uint32_t r, const uint32_t *ids, size_t count);
+
+/* j becomes a member by p: predecessor p, p's list, nothing pending. The records above j move up. values: member count afterwards.
+   1, 2, 3, 4, 5. */
+struct ring_answer ring_join(uint32_t *table, size_t words, uint32_t j, uint32_t p);
+
+/* One stabilize step of n, which adds 1 to the step count (up to 4294967295).
+   values: {0} again: a dead first entry was dropped, call once more; {1, c} look: c is to be looked at by the next call; {2, h} done: shelf h is
+   to be notified (ring_rectify h with a notice from n). 1, 3. */
+struct ring_answer ring_stabilize(uint32_t *table, size_t words, uint32_t n);
+
+/* n takes a notice from q. values: {1} if q was written as n's predecessor, {0} if not. 1, 3. */
+struct ring_answer ring_rectify(uint32_t *table, size_t words, uint32_t n, uint32_t q);
+
+/* Loss of n: its record goes, those above move down, the r + 4 words freed become 0. values: member count afterwards. 1, 3. */
+struct ring_answer ring_fail(uint32_t *table, size_t words, uint32_t n);
+
+/* Withdrawal of n: as its loss, but refused by 6 or 7, both judged on the table as it would be afterwards. 1, 3, 6, 7. */
+struct ring_answer ring_leave(uint32_t *table, size_t words, uint32_t n);
+
+/* Find key k from the member n. values: owner, the member it was found at, moves made. Nothing is written. 1, 3, 8. */
+struct ring_answer ring_lookup(const uint32_t *table, size_t words, uint32_t n, uint32_t k);
+
+/* values: members, principals, ring members, verdict (0 not sound, 1 sound, 2 sound and ideal). Nothing is written. 1. */
+struct ring_answer ring_audit(const uint32_t *table, size_t words);
+
+/* The audit, and one finding a member, in order; findings past the members stay. values: as ring_audit. 1, 10. */
+struct ring_answer ring_findings(const uint32_t *table, size_t words, struct ring_finding *findings, size_t count);
+
+/* Are two tables equal in r, members and first entries? values: 1 yes, 0 no. 1. */
+struct ring_answer ring_alike(const uint32_t *a, size_t a_words, const uint32_t *b, size_t b_words);
+
+/* The take-over choice of a shelf that holds two replies: the list of h, and that of c (empty if c timed out). values: {1, length} c's
+   list, {0, length} h's; length is that of the part to take over, from the list's first entry on, without its last entry (values[2] is its
+   high word, 0 for every list below 2^32 entries). Never refused. */
+struct ring_answer ring_take_over(uint32_t own, uint32_t h, uint32_t c, const uint32_t *h_list, size_t h_count, const uint32_t *c_list,
+                                  size_t c_count);
+
+/* Writes the image of the table. values: bytes written; later bytes stay. 1, 10. */
+struct ring_answer ring_image_write(const uint32_t *table, size_t words, uint8_t *image, size_t bytes);
+
+/* Reads a whole image into a slice, whose old words are never looked at; words behind the last record stay. values: member count. 9, 10. */
+struct ring_answer ring_image_read(uint32_t *table, size_t words, const uint8_t *image, size_t bytes);
+
+/* The field at a position of an image. values: tag, start of its contents, their length, position of the next field. Fields stand at
+   position 0 and then where the last one says. 9. */
+struct ring_answer ring_image_field(const uint8_t *image, size_t bytes, size_t position);
+
+#ifdef __cplusplus
+}
+#endif
+
+#endif

@@ -1,0 +1,116 @@
+/* A firmware main loop in small: it starts a ring, lets shelves join, stabilize and leave, saves and restores the table, and looks keys up.
+   Every call of include/ring.h is used, and each answer is held to what document 01 says. Exit status 0, and 'firmware: N checks' on
+   standard output. */
+
+#include "ring.h"
+#include <stdio.h>
+#include <string.h>
+
+static int checks, wrong;
+
+static void expect(const char *what, struct ring_answer a, uint32_t number, uint32_t v0, uint32_t v1, uint32_t v2, uint32_t v3)
+{
+    const uint32_t v[4] = {v0, v1, v2, v3};
+    checks++;
+    if (a.number != number || memcmp(a.values, v, sizeof v) != 0) {
+        printf("%s: %u {%u, %u, %u, %u}, not %u {%u, %u, %u, %u}\n", what, a.number, a.values[0], a.values[1], a.values[2], a.values[3], number, v0,
+               v1, v2, v3);
+        wrong++;
+    }
+}
+
+static void expect_true(const char *what, int holds)
+{
+    checks++;
+    if (!holds) {
+        printf("%s\n", what);
+        wrong++;
+    }
+}
+
+/* One round of a shelf: stabilize steps until done, then the notice to the shelf named. A notice to no member is refused, and lost. */
+static void round_of(uint32_t *table, size_t words, uint32_t n)
+{
+    for (;;) {
+        struct ring_answer a = ring_stabilize(table, words, n);
+        if (a.number != 0) return;
+        if (a.values[0] == 2) {
+            ring_rectify(table, words, a.values[1], n);
+            return;
+        }
+    }
+}
+
+int main(void)
+{
+    static uint32_t table[RING_TABLE_WORDS_MOST], other[RING_TABLE_WORDS_MOST], kept[RING_TABLE_WORDS_MOST];
+    static uint8_t image[RING_IMAGE_BYTES_MOST];
+    static struct ring_finding findings[256];
+    const size_t words = RING_TABLE_WORDS_MOST;
+    const uint32_t ids[] = {10, 20, 30, 40};
+    struct ring_answer a;
+    size_t i, bytes, at;
+
+    expect_true("sizes", sizeof(struct ring_answer) == 20 && sizeof(struct ring_finding) == 12);
+
+    /* Document 01's session. */
+    expect("new", ring_new(table, words, 2, ids, 4), 0, 4, 0, 0, 0);
+    expect("join", ring_join(table, words, 25, 20), 0, 5, 0, 0, 0);
+    expect("stabilize 25", ring_stabilize(table, words, 25), 0, 2, 30, 0, 0);
+    expect("rectify 30", ring_rectify(table, words, 30, 25), 0, 1, 0, 0, 0);
+    expect("stabilize 20", ring_stabilize(table, words, 20), 0, 1, 25, 0, 0);
+    expect("stabilize 20 again", ring_stabilize(table, words, 20), 0, 2, 25, 0, 0);
+    expect("audit", ring_audit(table, words), 0, 5, 4, 5, 2);
+    expect("join a member", ring_join(table, words, 30, 20), 2, 0, 0, 0, 0);
+    expect("leave 10", ring_leave(table, words, 10), 0, 4, 0, 0, 0);
+    memcpy(kept, table, sizeof kept);
+    expect("leave 20", ring_leave(table, words, 20), 6, 0, 0, 0, 0);
+    expect_true("a refusal writes nothing", memcmp(kept, table, sizeof kept) == 0);
+    expect("stabilize 40", ring_stabilize(table, words, 40), 0, 0, 0, 0, 0);
+    expect("lookup", ring_lookup(table, words, 30, 15), 0, 20, 40, 1, 0);
+
+    /* Churn: shelves join one after the other, and the ring settles. */
+    for (i = 0; i < 100; i++) ring_join(table, words, 1000 + 7 * (uint32_t)i, i == 0 ? 40 : 1000 + 7 * ((uint32_t)i - 1));
+    for (i = 0; i < 2000; i++) round_of(table, words, table[3 + (i % table[1]) * 6]);
+    expect("settled", ring_audit(table, words), 0, 104, 104, 104, 2);
+
+    /* Saved, looked at field by field, and restored. */
+    a = ring_image_write(table, words, image, sizeof image);
+    bytes = RING_IMAGE_BYTES(2, 104);
+    expect("image", a, 0, (uint32_t)bytes, 0, 0, 0);
+    expect("image too short", ring_image_write(table, words, image, bytes - 1), 10, 0, 0, 0, 0);
+    expect("first field", ring_image_field(image, bytes, 0), 0, 1, 3, 7, 10);
+    for (at = 0, i = 0; (a = ring_image_field(image, bytes, at)).number == 0; i++) at = a.values[3];
+    expect_true("fields", i == 106 && at == bytes);
+    expect("no field is due", ring_image_field(image, bytes, 11), 9, 0, 0, 0, 0);
+    expect("restored", ring_image_read(other, words, image, bytes), 0, 104, 0, 0, 0);
+    expect("alike", ring_alike(table, words, other, words), 0, 1, 0, 0, 0);
+    expect_true("the same words", memcmp(table, other, RING_TABLE_WORDS(2, 104) * 4) == 0);
+    expect("cut short", ring_image_read(other, words, image, bytes - 1), 9, 0, 0, 0, 0);
+
+    /* A loss, and what the audit finds. */
+    expect("fail", ring_fail(other, words, 25), 0, 103, 0, 0, 0);
+    expect("unlike", ring_alike(table, words, other, words), 0, 0, 0, 0, 0);
+    a = ring_findings(table, words, findings, 256);
+    expect("findings", a, 0, 104, 104, 104, 2);
+    expect_true("the first finding", findings[0].id == 20 && findings[0].principal == 1 && findings[0].moves == 0);
+    expect("findings too short", ring_findings(table, words, findings, 103), 10, 0, 0, 0, 0);
+
+    /* The take-over choice. */
+    {
+        const uint32_t h_list[] = {30, 40, 10}, c_list[] = {25, 30};
+        expect("take over c", ring_take_over(20, 30, 25, h_list, 3, c_list, 2), 0, 1, 1, 0, 0);
+        expect("take over h", ring_take_over(20, 30, 35, h_list, 3, c_list, 2), 0, 0, 2, 0, 0);
+        expect("c timed out", ring_take_over(20, 30, 25, h_list, 3, c_list, 0), 0, 0, 2, 0, 0);
+    }
+
+    /* Refusals. */
+    expect("no table", ring_audit(table, 2), 1, 0, 0, 0, 0);
+    expect("no member", ring_stabilize(table, words, 11), 3, 0, 0, 0, 0);
+    expect("not between", ring_join(table, words, 50, 20), 4, 0, 0, 0, 0);
+    expect("two are too few", ring_new(other, words, 2, ids, 2), 11, 0, 0, 0, 0);
+    expect("too short", ring_new(other, 20, 2, ids, 4), 10, 0, 0, 0, 0);
+
+    printf("firmware: %d checks, %d wrong\n", checks, wrong);
+    return wrong != 0;
+}
