@@ -1,5 +1,5 @@
--- What the copy of a table and a record's removal leave, and which of withdrawal's causes are loss's too. Assumes nothing.
-use Prim.Native.Nat.{ℕ}
+-- A table's words copied, a member's record removed, and the causes of a withdrawal taken apart. Assumes nothing.
+use Prim.Native.Nat.{ℕ, suc}
 use mathlib.Core.Path.{_≡_, refl, sym, ap, _∙_}
 use mathlib.Core.Bool.{Bool, true, false, not}
 use mathlib.Core.List.{List, [], _∷_, _++_}
@@ -7,16 +7,16 @@ use native.Mathlib.Omega.{arith}
 use borrow.Author.Tests.{not-false}
 use lib.ListN.{length, getD, take, drop, take-append-drop}
 use Rattle.model.specs.Identifier.{space}
-use Rattle.model.specs.Table.{Table, size, tableOf, membersIn, wellFormed}
+use Rattle.model.specs.Table.{Table, headerSize, size, tableOf, membersIn, wellFormed}
 use Rattle.model.specs.Ring.{live}
 use Rattle.model.specs.Answer.{Cause, _when_, firstOf}
 use Rattle.model.specs.Steps.{without}
 use Rattle.model.specs.Refusals.{cutsOff, tooFewPrincipals, memberRefusal, leaveRefusal}
 use Rattle.model.specs.Calls.{writtenFreed}
 use Rattle.laws.specs.Lists.{live-in}
-use Rattle.laws.specs.Words.{words-read, words-written, writtenFreed-table}
+use Rattle.laws.specs.Words.{members-length, words-read, words-written, writtenFreed-table}
 use Rattle.laws.specs.Tables.{wellFormed-facts, facts-wellFormed, holds-formed, formed-lists, writtenFreed-formed}
-use Rattle.laws.specs.Removed.{removed-formed, removed-size}
+use Rattle.laws.specs.Removed.{removed-length, removed-formed, removed-size}
 use Rattle.laws.specs.Accepted.{none-applies}
 use Rattle.words.proofs.Records.{most-words}
 use Rattle.table.specs.Formed.{Formed}
@@ -39,17 +39,20 @@ module _ (ws a : List ℕ) (f : Formed ws) (e : take (size (tableOf ws)) a ≡ t
 
 -- The record of a member, removed
 
-module _ (ws : List ℕ) (n : ℕ) (f : Formed ws) (l : live (membersIn ws) n ≡ true) where
-  pub removed-facts : Formed (writtenFreed (without n (tableOf ws)) ws) × (tableOf (writtenFreed (without n (tableOf ws)) ws) ≡ without n (tableOf ws))
-  removed-facts =
-      let i = live-in (membersIn ws) n l in
-      let w = wellFormed-facts ws (f .right) in
-      let T : Table = without n (tableOf ws) in
-      let k = removed-formed space n (tableOf ws) (w .table) i in
-      (formed (writtenFreed T ws) (facts-wellFormed (writtenFreed T ws) (writtenFreed-formed T ws k (omega (arith, removed-size n (tableOf ws) i, w .fits)))), writtenFreed-table T ws (formed-lists space T k))
+pub one-fewer : (ws : List ℕ) (n : ℕ) → live (membersIn ws) n ≡ true → suc (length (without n (tableOf ws) .members)) ≡ getD ws 1 0
+one-fewer ws n l = removed-length n (membersIn ws) (live-in (membersIn ws) n l) ∙ members-length (getD ws 0 0) (getD ws 1 0) (drop headerSize ws)
+
+pub removed-facts : (ws : List ℕ) (n : ℕ) → Formed ws → live (membersIn ws) n ≡ true → Formed (writtenFreed (without n (tableOf ws)) ws) × (tableOf (writtenFreed (without n (tableOf ws)) ws) ≡ without n (tableOf ws))
+removed-facts ws n f l =
+    let i = live-in (membersIn ws) n l in
+    let w = wellFormed-facts ws (f .right) in
+    let T : Table = without n (tableOf ws) in
+    let k = removed-formed space n (tableOf ws) (w .table) i in
+    (formed (writtenFreed T ws) (facts-wellFormed (writtenFreed T ws) (writtenFreed-formed T ws k (omega (arith, removed-size n (tableOf ws) i, w .fits)))), writtenFreed-table T ws (formed-lists space T k))
 
 -- The causes of a withdrawal
 
+-- where one of the first two applies, the later ones do not matter
 first-causes : (a b : Bool) (cs : List Cause) → (firstOf ((1 when a) ∷ (3 when b) ∷ []) ≡ 0 → ⊥) → firstOf ((1 when a) ∷ (3 when b) ∷ []) ≡ firstOf ((1 when a) ∷ (3 when b) ∷ cs)
 first-causes true b cs h = refl
 first-causes false true cs h = refl

@@ -1,11 +1,6 @@
 -- `fail` meets its contract: declined it writes nothing, accepted the record of n goes. Assumes nothing.
-use mathlib.Core.Path.{_≡_, sym, ap, _∙_}
-use mathlib.Core.List.{List, [], _∷_}
+use mathlib.Core.Path.{_≡_, sym, _∙_}
 use borrow.Author.Needs.{needs}
-use Prim.Native.Nat.{ℕ, _<_}
-use native.Mathlib.Omega.{arith}
-use lib.ListN.{length, getD}
-use Rattle.model.specs.Answer.{accepted}
 use Rattle.model.specs.Refusals.{memberRefusal}
 use Rattle.model.specs.Calls.{failAnswer, failWords}
 use Rattle.laws.specs.Accepted.{declined-answer, unchanged, member-accepted}
@@ -17,14 +12,11 @@ use Rattle.depart.proofs.fail.Tie as tie
 granted : (c : tie.Else1) → let a = c .before .before .before .before .args in memberRefusal (a .t .now) (a .n) ≡ 0
 granted c = sym (c .before .member-refusal .ensures) ∙ c .if1 .left
 
-remove-requires : tie.Need-remove-requires
-remove-requires c κs =
+gone-requires : tie.Need-gone-requires
+gone-requires c κs =
     let e = c .before in
     let a = e .before .before .before .before .args in
     (refused-formed (a .t .now) (a .n) (granted e), member-accepted (a .t .now) (a .n) (granted e))
-
-slice-read-m : tie.Need-slice-read-m
-slice-read-m c = let i = c .before .before .before in let h : 1 < length (i .remove .last .0) = rw (i .remove .ensures) (omega arith) in h
 
 returns : tie.Need-returns
 unfolding failAnswer failWords
@@ -36,9 +28,9 @@ returns c =
 returns-2 : tie.Need-returns-2
 unfolding failAnswer failWords
 returns-2 c =
-    let i = c .before .before .before in
-    let e = i .before .before in
-    (rw (granted e) (ap (λ (l : List ℕ). accepted (getD l 1 0 ∷ [])) (i .remove .ensures)), rw (granted e) (i .remove .ensures))
+    let g = c .before .before in
+    let e = granted (g .before .before) in
+    (rw e (g .gone .ensures .0), rw e (g .gone .ensures .1))
 
 pub fail-spec : {M : Type 1} → statement M
-fail-spec = tie.close (tie.spec (λ c κs. search needs) (λ c. search needs) returns remove-requires slice-read-m (λ c. search needs) returns-2)
+fail-spec = tie.close (tie.spec (λ c κs. search needs) (λ c. search needs) returns gone-requires (λ c. search needs) returns-2)
