@@ -1,0 +1,371 @@
+//! One call on both sides, with the same buffers between the same guards.
+//! Answers and whole buffers, guards too, must be equal afterwards.
+
+use crate::calls::{Calls, REFERENCE};
+use crate::random::mix;
+use crate::reference::{Answer, Finding};
+use std::fmt::Debug;
+use std::sync::atomic::{AtomicUsize, Ordering};
+
+/// The call under way on the library's side, as a place in `NAMES` plus 1, so
+/// that a panic can be told apart.
+static UNDER_WAY: AtomicUsize = AtomicUsize::new(0);
+
+/// The name of the call under way on the library's side, if there is one.
+pub fn under_way() -> Option<&'static str> {
+    UNDER_WAY.load(Ordering::Relaxed).checked_sub(1).map(|i| NAMES[i])
+}
+
+pub const NAMES: [&str; 14] = [
+    "new",
+    "join",
+    "stabilize",
+    "rectify",
+    "fail",
+    "leave",
+    "lookup",
+    "audit",
+    "findings",
+    "alike",
+    "take_over",
+    "image_write",
+    "image_read",
+    "image_field",
+];
+
+/// An input or output slice: the first `len` elements of `all` are lent. Those
+/// behind stand right after the slice, where a call that goes past the end
+/// would meet them.
+#[derive(Clone, Debug)]
+pub struct Piece<T> {
+    pub all: Vec<T>,
+    pub len: usize,
+}
+
+impl<T: Copy> Piece<T> {
+    pub fn whole(all: Vec<T>) -> Piece<T> {
+        let len = all.len();
+        Piece { all, len }
+    }
+
+    pub fn cut(all: &[T], len: usize) -> Piece<T> {
+        Piece { all: all.to_vec(), len }
+    }
+
+    pub fn slice(&self) -> &[T] {
+        &self.all[..self.len]
+    }
+}
+
+fn nothing<T: Copy>() -> Piece<T> {
+    Piece::whole(Vec::new())
+}
+
+/// What a guard is made of.
+pub trait Element: Copy + PartialEq + Debug {
+    fn of(seed: u64) -> Self;
+}
+
+impl Element for u32 {
+    fn of(seed: u64) -> u32 {
+        seed as u32
+    }
+}
+
+impl Element for u8 {
+    fn of(seed: u64) -> u8 {
+        seed as u8
+    }
+}
+
+impl Element for Finding {
+    fn of(seed: u64) -> Finding {
+        Finding { id: seed as u32, principal: (seed >> 16) as u32, moves: (seed >> 32) as u32 }
+    }
+}
+
+/// A buffer with the lent slice in its middle.
+#[derive(Clone)]
+struct Lent<T> {
+    all: Vec<T>,
+    start: usize,
+    len: usize,
+}
+
+impl<T: Element> Lent<T> {
+    fn new(piece: &Piece<T>, seed: u64) -> Lent<T> {
+        // The start varies, so that byte slices stand at every alignment.
+        let start = 13 + (seed % 8) as usize;
+        let mut all = Vec::with_capacity(start + piece.all.len() + 16);
+        let mut guard = mix(seed);
+        let mut next = || {
+            guard = guard.wrapping_mul(6364136223846793005).wrapping_add(1442695040888963407);
+            T::of(guard >> 16)
+        };
+        all.extend((0..start).map(|_| next()));
+        all.extend_from_slice(&piece.all);
+        all.extend((0..16).map(|_| next()));
+        Lent { all, start, len: piece.len }
+    }
+
+    fn slice(&mut self) -> &mut [T] {
+        &mut self.all[self.start..self.start + self.len]
+    }
+
+    /// Where two copies differ, told in places of the slice.
+    fn differences(&self, other: &Lent<T>) -> Vec<String> {
+        self.all
+            .iter()
+            .zip(&other.all)
+            .enumerate()
+            .filter(|(_, (a, b))| a != b)
+            .take(20)
+            .map(|(i, (a, b))| {
+                let place = i as i64 - self.start as i64;
+                let inside = place >= 0 && place < self.len as i64;
+                let note = if inside { "" } else { " (guard)" };
+                format!("    at {place}{note}: reference {a:?}, library {b:?}")
+            })
+            .collect()
+    }
+}
+
+/// The numbers each call can give, in the order of `NAMES`. Stabilize's three
+/// replies and audit's three verdicts count as 0, 20 and 21.
+const POSSIBLE: [&[usize]; 14] = [
+    &[0, 10, 11],
+    &[0, 1, 2, 3, 4, 5],
+    &[0, 20, 21, 1, 3],
+    &[0, 20, 1, 3],
+    &[0, 1, 3],
+    &[0, 1, 3, 6, 7],
+    &[0, 1, 3, 8],
+    &[0, 20, 21, 1],
+    &[0, 20, 21, 1, 10],
+    &[0, 20, 1],
+    &[0, 20],
+    &[0, 1, 10],
+    &[0, 9, 10],
+    &[0, 9],
+];
+
+/// The comparisons made so far, and the side under test.
+pub struct Compare {
+    under_test: &'static Calls,
+    pub counts: [u64; 14],
+    numbers: [[u64; 22]; 14],
+    /// Tells each call on standard error before it is made.
+    pub trace: bool,
+}
+
+/// What one call gave on both sides.
+pub struct Outcome<A, B> {
+    pub answer: Answer,
+    pub first: Vec<A>,
+    pub second: Vec<B>,
+}
+
+type Result<T> = std::result::Result<T, String>;
+
+impl Compare {
+    pub fn new(under_test: &'static Calls) -> Compare {
+        Compare { under_test, counts: [0; 14], numbers: [[0; 22]; 14], trace: false }
+    }
+
+    /// How often each call gave each of its numbers.
+    pub fn numbers(&self) -> String {
+        let mut text = String::new();
+        for (i, name) in NAMES.iter().enumerate() {
+            let met: Vec<String> = POSSIBLE[i]
+                .iter()
+                .map(|&kind| match kind {
+                    20 | 21 => format!("0 with {}: {}", kind - 19, self.numbers[i][kind]),
+                    _ => format!("{kind}: {}", self.numbers[i][kind]),
+                })
+                .collect();
+            text += &format!("  {name}: {}\n", met.join(", "));
+        }
+        text
+    }
+
+    /// A call and a number that it can give but never gave.
+    pub fn never_met(&self) -> Option<(&'static str, usize)> {
+        for (i, &name) in NAMES.iter().enumerate() {
+            for &kind in POSSIBLE[i] {
+                if self.numbers[i][kind] == 0 {
+                    return Some((name, kind));
+                }
+            }
+        }
+        None
+    }
+
+    /// Sorts an answer by its number, and a few by their reply too.
+    fn count(&mut self, index: usize, answer: &Answer) {
+        let reply = match NAMES[index] {
+            "stabilize" | "rectify" | "alike" | "take_over" => answer.values[0],
+            "audit" | "findings" => answer.values[3],
+            _ => 0,
+        };
+        let kind = match (answer.number, reply) {
+            (0, 0) => 0,
+            (0, reply) => 19 + reply as usize,
+            (number, _) => number as usize,
+        };
+        self.numbers[index][kind] += 1;
+    }
+
+    pub fn total(&self) -> u64 {
+        self.counts.iter().sum()
+    }
+
+    fn run<A: Element, B: Element>(
+        &mut self,
+        name: &str,
+        arguments: &[u64],
+        first: &Piece<A>,
+        second: &Piece<B>,
+        call: impl Fn(&Calls, &mut [A], &mut [B]) -> Answer,
+    ) -> Result<Outcome<A, B>> {
+        let seed = mix(self.total());
+        let index = NAMES.iter().position(|&n| n == name).expect("a known call");
+        self.counts[index] += 1;
+
+        let (mut a, mut b) = (Lent::new(first, seed), Lent::new(second, seed >> 8));
+        let (mut lib_a, mut lib_b) = (a.clone(), b.clone());
+        let expected = call(&REFERENCE, a.slice(), b.slice());
+        let inputs = || {
+            format!(
+                "  numbers {arguments:?}\n  first slice, {} of {:?}\n  second slice, {} of {:?}\n",
+                first.len, first.all, second.len, second.all
+            )
+        };
+        if self.trace {
+            eprint!("{name}\n{}", inputs());
+            eprintln!("  reference {} {:?}", expected.number, expected.values);
+        }
+        UNDER_WAY.store(index + 1, Ordering::Relaxed);
+        let given = call(self.under_test, lib_a.slice(), lib_b.slice());
+        UNDER_WAY.store(0, Ordering::Relaxed);
+
+        let equal = expected == given && a.all == lib_a.all && b.all == lib_b.all;
+        let kept =
+            expected.number == 0 || (a.slice() == first.slice() && b.slice() == second.slice());
+        if equal && kept {
+            self.count(index, &expected);
+            return Ok(Outcome {
+                answer: expected,
+                first: a.slice().to_vec(),
+                second: b.slice().to_vec(),
+            });
+        }
+
+        let mut text = if kept {
+            format!("DIFFERENCE in {name}\n")
+        } else {
+            format!("REFERENCE changes a buffer in a refused {name}\n")
+        };
+        text += &inputs();
+        text += &format!("  reference {} {:?}\n", expected.number, expected.values);
+        text += &format!("  library   {} {:?}\n", given.number, given.values);
+        for (which, lines) in [("first", a.differences(&lib_a)), ("second", b.differences(&lib_b))]
+        {
+            if !lines.is_empty() {
+                text += &format!("  {which} slice afterwards\n{}\n", lines.join("\n"));
+            }
+        }
+        Err(text)
+    }
+
+    pub fn make(
+        &mut self,
+        table: &Piece<u32>,
+        r: u32,
+        ids: &Piece<u32>,
+    ) -> Result<Outcome<u32, u32>> {
+        self.run("new", &[r as u64], table, ids, |c, t, ids| (c.new)(t, r, ids))
+    }
+
+    pub fn join(&mut self, table: &Piece<u32>, j: u32, p: u32) -> Result<Outcome<u32, u32>> {
+        self.run("join", &[j as u64, p as u64], table, &nothing(), |c, t, _| (c.join)(t, j, p))
+    }
+
+    pub fn stabilize(&mut self, table: &Piece<u32>, n: u32) -> Result<Outcome<u32, u32>> {
+        self.run("stabilize", &[n as u64], table, &nothing(), |c, t, _| (c.stabilize)(t, n))
+    }
+
+    pub fn rectify(&mut self, table: &Piece<u32>, n: u32, q: u32) -> Result<Outcome<u32, u32>> {
+        self.run("rectify", &[n as u64, q as u64], table, &nothing(), |c, t, _| {
+            (c.rectify)(t, n, q)
+        })
+    }
+
+    pub fn fail(&mut self, table: &Piece<u32>, n: u32) -> Result<Outcome<u32, u32>> {
+        self.run("fail", &[n as u64], table, &nothing(), |c, t, _| (c.fail)(t, n))
+    }
+
+    pub fn leave(&mut self, table: &Piece<u32>, n: u32) -> Result<Outcome<u32, u32>> {
+        self.run("leave", &[n as u64], table, &nothing(), |c, t, _| (c.leave)(t, n))
+    }
+
+    pub fn lookup(&mut self, table: &Piece<u32>, n: u32, k: u32) -> Result<Outcome<u32, u32>> {
+        self.run("lookup", &[n as u64, k as u64], table, &nothing(), |c, t, _| (c.lookup)(t, n, k))
+    }
+
+    pub fn audit(&mut self, table: &Piece<u32>) -> Result<Outcome<u32, u32>> {
+        self.run("audit", &[], table, &nothing(), |c, t, _| (c.audit)(t))
+    }
+
+    pub fn findings(
+        &mut self,
+        table: &Piece<u32>,
+        findings: &Piece<Finding>,
+    ) -> Result<Outcome<u32, Finding>> {
+        self.run("findings", &[], table, findings, |c, t, f| (c.findings)(t, f))
+    }
+
+    pub fn alike(&mut self, a: &Piece<u32>, b: &Piece<u32>) -> Result<Outcome<u32, u32>> {
+        self.run("alike", &[], a, b, |c, a, b| (c.alike)(a, b))
+    }
+
+    /// Both slices are the same one.
+    pub fn alike_itself(&mut self, table: &Piece<u32>) -> Result<Outcome<u32, u32>> {
+        self.run("alike", &[], table, &nothing(), |c, t, _| (c.alike)(t, t))
+    }
+
+    pub fn take_over(
+        &mut self,
+        own: u32,
+        h: u32,
+        c: u32,
+        h_list: &Piece<u32>,
+        c_list: &Piece<u32>,
+    ) -> Result<Outcome<u32, u32>> {
+        let arguments = [own as u64, h as u64, c as u64];
+        self.run("take_over", &arguments, h_list, c_list, |calls, hl, cl| {
+            (calls.take_over)(own, h, c, hl, cl)
+        })
+    }
+
+    pub fn image_write(
+        &mut self,
+        table: &Piece<u32>,
+        image: &Piece<u8>,
+    ) -> Result<Outcome<u32, u8>> {
+        self.run("image_write", &[], table, image, |c, t, i| (c.image_write)(t, i))
+    }
+
+    pub fn image_read(
+        &mut self,
+        table: &Piece<u32>,
+        image: &Piece<u8>,
+    ) -> Result<Outcome<u32, u8>> {
+        self.run("image_read", &[], table, image, |c, t, i| (c.image_read)(t, i))
+    }
+
+    pub fn image_field(&mut self, image: &Piece<u8>, position: usize) -> Result<Outcome<u8, u8>> {
+        self.run("image_field", &[position as u64], image, &nothing(), |c, i, _| {
+            (c.image_field)(i, position)
+        })
+    }
+}

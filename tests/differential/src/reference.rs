@@ -1,0 +1,667 @@
+//! The ring table, written from the paper's sentences: a table is decoded into
+//! members, the step is done on them, and the result is encoded back.
+//! A refusal changes no buffer, and only the words a call writes change.
+
+/// `number` is 0 or the number that declines; unused values are 0.
+#[repr(C)]
+#[derive(Clone, Copy, PartialEq, Eq, Debug)]
+pub struct Answer {
+    pub number: u32,
+    pub values: [u32; 4],
+}
+
+/// One record of the audit's list.
+#[repr(C)]
+#[derive(Clone, Copy, PartialEq, Eq, Debug)]
+pub struct Finding {
+    pub id: u32,
+    pub principal: u32,
+    pub moves: u32,
+}
+
+fn accept(values: &[u32]) -> Answer {
+    let mut all = [0; 4];
+    all[..values.len()].copy_from_slice(values);
+    Answer { number: 0, values: all }
+}
+
+fn decline(number: u32) -> Answer {
+    Answer { number, values: [0; 4] }
+}
+
+/// "if a < b then a < n and n < b; else a < n or n < b"
+pub fn between(a: u32, n: u32, b: u32) -> bool {
+    if a < b {
+        a < n && n < b
+    } else {
+        a < n || n < b
+    }
+}
+
+/// "The identifier after n is n + 1, and the one after 4294967295 is 0."
+fn after(n: u32) -> u32 {
+    if n == u32::MAX {
+        0
+    } else {
+        n + 1
+    }
+}
+
+const HEADER: usize = 3;
+const MOST: usize = 256;
+
+#[derive(Clone, PartialEq)]
+struct Member {
+    identifier: u32,
+    predecessor: u32,
+    pending: bool,
+    candidate: u32,
+    list: Vec<u32>,
+}
+
+impl Member {
+    fn extended_list(&self) -> Vec<u32> {
+        let mut all = vec![self.identifier];
+        all.extend_from_slice(&self.list);
+        all
+    }
+
+    fn first_entry(&self) -> u32 {
+        self.list[0]
+    }
+
+    /// "the list becomes h, then h's list without its last entry"
+    fn adopt(&mut self, other: &Member) {
+        let mut list = vec![other.identifier];
+        list.extend_from_slice(&other.list[..other.list.len() - 1]);
+        self.list = list;
+    }
+
+    /// "drop h, append the identifier after the last entry (with r = 1, after h)"
+    fn drop_head(&mut self) {
+        let last = self.list[self.list.len() - 1];
+        self.list.remove(0);
+        self.list.push(after(last));
+    }
+}
+
+#[derive(Clone, PartialEq)]
+struct Table {
+    r: usize,
+    steps: u32,
+    members: Vec<Member>,
+}
+
+impl Table {
+    /// The table in the slice; nothing if it is not well-formed or longer than
+    /// its slice.
+    fn decode(words: &[u32]) -> Option<Table> {
+        if words.len() < HEADER {
+            return None;
+        }
+        let (r, count, steps) = (words[0], words[1], words[2]);
+        if !(1..=8).contains(&r) || count > MOST as u32 {
+            return None;
+        }
+        let (r, count) = (r as usize, count as usize);
+        let records = &words[HEADER..];
+        if records.len() < count * (r + 4) {
+            return None;
+        }
+        let mut members = Vec::new();
+        for record in records.chunks_exact(r + 4).take(count) {
+            if record[2] > 1 {
+                return None;
+            }
+            members.push(Member {
+                identifier: record[0],
+                predecessor: record[1],
+                pending: record[2] == 1,
+                candidate: record[3],
+                list: record[4..].to_vec(),
+            });
+        }
+        let table = Table { r, steps, members };
+        if table.is_well_formed() {
+            Some(table)
+        } else {
+            None
+        }
+    }
+
+    /// What remains to be asked of decoded records.
+    fn is_well_formed(&self) -> bool {
+        (1..=8).contains(&self.r)
+            && self.members.len() <= MOST
+            && self.members.iter().all(|m| m.list.len() == self.r)
+            && self.members.iter().all(|m| m.pending || m.candidate == 0)
+            && self.members.windows(2).all(|pair| pair[0].identifier < pair[1].identifier)
+    }
+
+    fn encode(&self) -> Vec<u32> {
+        let mut words = vec![self.r as u32, self.members.len() as u32, self.steps];
+        for m in &self.members {
+            words.push(m.identifier);
+            words.push(m.predecessor);
+            words.push(m.pending as u32);
+            words.push(m.candidate);
+            words.extend_from_slice(&m.list);
+        }
+        words
+    }
+
+    /// The words of one record.
+    fn width(&self) -> usize {
+        self.r + 4
+    }
+
+    fn length(&self) -> usize {
+        HEADER + self.members.len() * self.width()
+    }
+
+    fn count(&self) -> u32 {
+        self.members.len() as u32
+    }
+
+    fn place(&self, identifier: u32) -> Option<usize> {
+        self.members.binary_search_by_key(&identifier, |m| m.identifier).ok()
+    }
+
+    fn member(&self, identifier: u32) -> Option<&Member> {
+        self.place(identifier).map(|i| &self.members[i])
+    }
+
+    /// "An entry is live if it is a member's identifier."
+    fn is_live(&self, entry: u32) -> bool {
+        self.place(entry).is_some()
+    }
+
+    /// "a move going to the first live entry"
+    fn first_live(&self, member: &Member) -> Option<u32> {
+        member.list.iter().copied().find(|&e| self.is_live(e))
+    }
+
+    /// "no two neighbouring entries (a, b) in any member's extended list have
+    /// between(a, member, b)", for each member.
+    fn principals(&self) -> Vec<bool> {
+        let lists: Vec<Vec<u32>> = self.members.iter().map(Member::extended_list).collect();
+        self.members
+            .iter()
+            .map(|m| {
+                !lists
+                    .iter()
+                    .any(|list| list.windows(2).any(|pair| between(pair[0], m.identifier, pair[1])))
+            })
+            .collect()
+    }
+
+    fn principal_count(&self) -> usize {
+        self.principals().iter().filter(|&&p| p).count()
+    }
+
+    fn all_have_a_live_entry(&self) -> bool {
+        self.members.iter().all(|m| self.first_live(m).is_some())
+    }
+
+    fn is_sound(&self) -> bool {
+        self.all_have_a_live_entry()
+            && self.principal_count() >= self.r + 1
+            && self
+                .members
+                .iter()
+                .all(|m| !m.pending || between(m.identifier, m.candidate, m.first_entry()))
+    }
+
+    /// "each first entry is the next member up, each predecessor the next
+    /// down, round the end"
+    fn is_ideal(&self) -> bool {
+        let n = self.members.len();
+        (0..n).all(|i| {
+            let up = self.members[(i + 1) % n].identifier;
+            let down = self.members[(i + n - 1) % n].identifier;
+            self.members[i].first_entry() == up && self.members[i].predecessor == down
+        })
+    }
+
+    /// The move from each member, by place.
+    fn all_moves(&self) -> Vec<Option<usize>> {
+        self.members.iter().map(|m| self.first_live(m).and_then(|b| self.place(b))).collect()
+    }
+
+    /// "the set of members that come back to themselves by one or more moves"
+    fn ring(&self) -> Vec<bool> {
+        let moves = self.all_moves();
+        (0..moves.len())
+            .map(|start| {
+                let mut at = moves[start];
+                for _ in 0..moves.len() {
+                    match at {
+                        None => return false,
+                        Some(place) if place == start => return true,
+                        Some(place) => at = moves[place],
+                    }
+                }
+                false
+            })
+            .collect()
+    }
+
+    /// "moves to the ring (0 on it; the member count if the walk never comes
+    /// there)", for each member.
+    fn moves_to_ring(&self) -> Vec<u32> {
+        let moves = self.all_moves();
+        let ring = self.ring();
+        (0..moves.len())
+            .map(|start| {
+                let mut at = start;
+                for made in 0..moves.len() {
+                    if ring[at] {
+                        return made as u32;
+                    }
+                    match moves[at] {
+                        None => return self.count(),
+                        Some(next) => at = next,
+                    }
+                }
+                self.count()
+            })
+            .collect()
+    }
+
+    fn audit(&self) -> Answer {
+        let ring = self.ring().iter().filter(|&&on| on).count();
+        let verdict = match (self.is_sound(), self.is_ideal()) {
+            (false, _) => 0,
+            (true, false) => 1,
+            (true, true) => 2,
+        };
+        accept(&[self.count(), self.principal_count() as u32, ring as u32, verdict])
+    }
+
+    /// Writes the table to the front of the slice; the other words stay.
+    fn put(&self, words: &mut [u32]) {
+        let own = self.encode();
+        words[..own.len()].copy_from_slice(&own);
+    }
+
+    fn image(&self) -> Vec<u8> {
+        let mut image = Vec::new();
+        let mut head = vec![self.r as u8];
+        head.extend_from_slice(&(self.members.len() as u16).to_be_bytes());
+        head.extend_from_slice(&self.steps.to_be_bytes());
+        push_field(&mut image, 1, &head);
+        for m in &self.members {
+            let mut record = Vec::new();
+            record.extend_from_slice(&m.identifier.to_be_bytes());
+            record.extend_from_slice(&m.predecessor.to_be_bytes());
+            record.push(m.pending as u8);
+            record.extend_from_slice(&m.candidate.to_be_bytes());
+            for entry in &m.list {
+                record.extend_from_slice(&entry.to_be_bytes());
+            }
+            push_field(&mut image, 2, &record);
+        }
+        push_field(&mut image, 3, &[]);
+        image
+    }
+
+    /// The table whose writing the image is, if there is one.
+    fn of_image(image: &[u8]) -> Option<Table> {
+        let head = field_with(image, 0, 1, 7)?;
+        let contents = &image[head.contents..head.next];
+        let r = contents[0] as usize;
+        let count = two_bytes(&contents[1..]) as usize;
+        let steps = four_bytes(&contents[3..]);
+        let mut position = head.next;
+        let mut members = Vec::new();
+        for _ in 0..count {
+            let field = field_with(image, position, 2, 13 + 4 * r)?;
+            let contents = &image[field.contents..field.next];
+            if contents[8] > 1 {
+                return None;
+            }
+            members.push(Member {
+                identifier: four_bytes(contents),
+                predecessor: four_bytes(&contents[4..]),
+                pending: contents[8] == 1,
+                candidate: four_bytes(&contents[9..]),
+                list: contents[13..].chunks_exact(4).map(four_bytes).collect(),
+            });
+            position = field.next;
+        }
+        let table = Table { r, steps, members };
+        if table.is_well_formed() && table.image() == image {
+            Some(table)
+        } else {
+            None
+        }
+    }
+}
+
+/// "one-byte tag, two-byte length, contents; high byte first"
+fn push_field(image: &mut Vec<u8>, tag: u8, contents: &[u8]) {
+    image.push(tag);
+    image.extend_from_slice(&(contents.len() as u16).to_be_bytes());
+    image.extend_from_slice(contents);
+}
+
+fn two_bytes(bytes: &[u8]) -> u16 {
+    u16::from_be_bytes([bytes[0], bytes[1]])
+}
+
+fn four_bytes(bytes: &[u8]) -> u32 {
+    u32::from_be_bytes([bytes[0], bytes[1], bytes[2], bytes[3]])
+}
+
+struct Field {
+    contents: usize,
+    next: usize,
+}
+
+/// The field at a position inside the image, if it is whole and has this tag
+/// and this length.
+fn field_with(image: &[u8], position: usize, tag: u8, length: usize) -> Option<Field> {
+    let rest = image.get(position..)?;
+    if rest.len() < 3 || rest[0] != tag || two_bytes(&rest[1..]) as usize != length {
+        return None;
+    }
+    if rest.len() - 3 < length {
+        return None;
+    }
+    Some(Field { contents: position + 3, next: position + 3 + length })
+}
+
+// The calls.
+
+pub fn new(table: &mut [u32], r: u32, ids: &[u32]) -> Answer {
+    let rising = ids.windows(2).all(|pair| pair[0] < pair[1]);
+    if !(1..=8).contains(&r) || !rising || ids.len() < r as usize + 1 || ids.len() > MOST {
+        return decline(11);
+    }
+    let (r, n) = (r as usize, ids.len());
+    let members = (0..n)
+        .map(|i| Member {
+            identifier: ids[i],
+            predecessor: ids[(i + n - 1) % n],
+            pending: false,
+            candidate: 0,
+            list: (1..=r).map(|ahead| ids[(i + ahead) % n]).collect(),
+        })
+        .collect();
+    let made = Table { r, steps: 0, members };
+    if table.len() < made.length() {
+        return decline(10);
+    }
+    made.put(table);
+    accept(&[made.count()])
+}
+
+pub fn join(table: &mut [u32], j: u32, p: u32) -> Answer {
+    let Some(mut t) = Table::decode(table) else {
+        return decline(1);
+    };
+    if t.is_live(j) {
+        return decline(2);
+    }
+    let Some(by) = t.member(p).cloned() else {
+        return decline(3);
+    };
+    if !between(p, j, by.first_entry()) {
+        return decline(4);
+    }
+    if t.members.len() == MOST || table.len() - t.length() < t.width() {
+        return decline(5);
+    }
+    let place = t.members.iter().filter(|m| m.identifier < j).count();
+    t.members.insert(
+        place,
+        Member { identifier: j, predecessor: p, pending: false, candidate: 0, list: by.list },
+    );
+    t.put(table);
+    accept(&[t.count()])
+}
+
+pub fn stabilize(table: &mut [u32], n: u32) -> Answer {
+    let Some(mut t) = Table::decode(table) else {
+        return decline(1);
+    };
+    let Some(place) = t.place(n) else {
+        return decline(3);
+    };
+    let mut member = t.members[place].clone();
+    let reply;
+    if member.pending {
+        if let Some(candidate) = t.member(member.candidate) {
+            member.adopt(candidate);
+        }
+        member.pending = false;
+        member.candidate = 0;
+        reply = accept(&[2, member.first_entry()]);
+    } else {
+        let h = member.first_entry();
+        match t.member(h) {
+            None => {
+                member.drop_head();
+                reply = accept(&[0]);
+            }
+            Some(head) => {
+                member.adopt(head);
+                let c = head.predecessor;
+                if between(n, c, h) {
+                    member.pending = true;
+                    member.candidate = c;
+                    reply = accept(&[1, c]);
+                } else {
+                    reply = accept(&[2, h]);
+                }
+            }
+        }
+    }
+    t.members[place] = member;
+    if t.steps < u32::MAX {
+        t.steps += 1;
+    }
+    t.put(table);
+    reply
+}
+
+pub fn rectify(table: &mut [u32], n: u32, q: u32) -> Answer {
+    let Some(mut t) = Table::decode(table) else {
+        return decline(1);
+    };
+    let Some(place) = t.place(n) else {
+        return decline(3);
+    };
+    let predecessor = t.members[place].predecessor;
+    if !between(predecessor, q, n) && t.is_live(predecessor) {
+        return accept(&[0]);
+    }
+    t.members[place].predecessor = q;
+    t.put(table);
+    accept(&[1])
+}
+
+/// Takes out the record at a place and zeroes the words it frees.
+fn put_without(table: &mut [u32], mut t: Table, place: usize) -> Answer {
+    t.members.remove(place);
+    t.put(table);
+    table[t.length()..t.length() + t.width()].fill(0);
+    accept(&[t.count()])
+}
+
+pub fn fail(table: &mut [u32], n: u32) -> Answer {
+    let Some(t) = Table::decode(table) else {
+        return decline(1);
+    };
+    let Some(place) = t.place(n) else {
+        return decline(3);
+    };
+    put_without(table, t, place)
+}
+
+pub fn leave(table: &mut [u32], n: u32) -> Answer {
+    let Some(t) = Table::decode(table) else {
+        return decline(1);
+    };
+    let Some(place) = t.place(n) else {
+        return decline(3);
+    };
+    let mut afterwards = t.clone();
+    afterwards.members.remove(place);
+    if !afterwards.all_have_a_live_entry() {
+        return decline(6);
+    }
+    if afterwards.principal_count() < t.r + 1 {
+        return decline(7);
+    }
+    put_without(table, t, place)
+}
+
+pub fn lookup(table: &[u32], n: u32, k: u32) -> Answer {
+    let Some(t) = Table::decode(table) else {
+        return decline(1);
+    };
+    let Some(mut at) = t.member(n) else {
+        return decline(3);
+    };
+    let mut moves = 0;
+    loop {
+        let q = at.identifier;
+        let Some(b) = t.first_live(at) else {
+            return Answer { number: 8, values: [q, 0, 0, 0] };
+        };
+        if k == b || between(q, k, b) {
+            return accept(&[b, q, moves]);
+        }
+        at = t.member(b).expect("a live entry names a member");
+        moves += 1;
+        assert!(moves < t.count(), "moves made are fewer than the members");
+    }
+}
+
+pub fn audit(table: &[u32]) -> Answer {
+    match Table::decode(table) {
+        None => decline(1),
+        Some(t) => t.audit(),
+    }
+}
+
+pub fn findings(table: &[u32], findings: &mut [Finding]) -> Answer {
+    let Some(t) = Table::decode(table) else {
+        return decline(1);
+    };
+    if findings.len() < t.members.len() {
+        return decline(10);
+    }
+    let principals = t.principals();
+    let moves = t.moves_to_ring();
+    for (i, m) in t.members.iter().enumerate() {
+        findings[i] =
+            Finding { id: m.identifier, principal: principals[i] as u32, moves: moves[i] };
+    }
+    t.audit()
+}
+
+pub fn alike(a: &[u32], b: &[u32]) -> Answer {
+    let (Some(a), Some(b)) = (Table::decode(a), Table::decode(b)) else {
+        return decline(1);
+    };
+    let shown = |t: &Table| -> Vec<(u32, u32)> {
+        t.members.iter().map(|m| (m.identifier, m.first_entry())).collect()
+    };
+    accept(&[(a.r == b.r && shown(&a) == shown(&b)) as u32])
+}
+
+pub fn take_over(own: u32, h: u32, c: u32, h_list: &[u32], c_list: &[u32]) -> Answer {
+    let from_c = !c_list.is_empty() && between(own, c, h);
+    let list = if from_c { c_list } else { h_list };
+    let part = match list.split_last() {
+        None => list,
+        Some((_, part)) => part,
+    };
+    accept(&[from_c as u32, part.len() as u32])
+}
+
+pub fn image_write(table: &[u32], image: &mut [u8]) -> Answer {
+    let Some(t) = Table::decode(table) else {
+        return decline(1);
+    };
+    let written = t.image();
+    if image.len() < written.len() {
+        return decline(10);
+    }
+    image[..written.len()].copy_from_slice(&written);
+    accept(&[written.len() as u32])
+}
+
+pub fn image_read(table: &mut [u32], image: &[u8]) -> Answer {
+    let Some(t) = Table::of_image(image) else {
+        return decline(9);
+    };
+    if table.len() < t.length() {
+        return decline(10);
+    }
+    t.put(table);
+    accept(&[t.count()])
+}
+
+/// The field due at a position as tag and length, which follows from the tag 1
+/// field alone.
+fn due(image: &[u8], position: usize) -> Option<(u8, usize)> {
+    if position == 0 {
+        return Some((1, 7));
+    }
+    let head = field_with(image, 0, 1, 7)?;
+    let r = image[head.contents] as usize;
+    let count = two_bytes(&image[head.contents + 1..]) as usize;
+    let record = 13 + 4 * r;
+    let end = head.next + count * (3 + record);
+    if position == end {
+        return Some((3, 0));
+    }
+    if position >= head.next && position < end && (position - head.next) % (3 + record) == 0 {
+        return Some((2, record));
+    }
+    None
+}
+
+pub fn image_field(image: &[u8], position: usize) -> Answer {
+    let Some((tag, length)) = due(image, position) else {
+        return decline(9);
+    };
+    match field_with(image, position, tag, length) {
+        None => decline(9),
+        Some(field) => {
+            accept(&[tag as u32, field.contents as u32, length as u32, field.next as u32])
+        }
+    }
+}
+
+#[cfg(test)]
+mod settled {
+    use super::*;
+
+    #[test]
+    fn examples() {
+        assert!(between(20, 25, 30)); // (a)
+        assert!(between(40, 5, 10)); // (b)
+        assert!(!between(10, 10, 10)); // (c)
+        assert!(between(10, 11, 10)); // (d)
+        assert!(!between(10, 20, 20)); // (e)
+
+        // (f), (g): the list after a dead head is dropped.
+        let mut table = [2, 1, 0, 5, 5, 0, 0, 100, u32::MAX];
+        assert_eq!(stabilize(&mut table, 5), accept(&[0]));
+        assert_eq!(table, [2, 1, 1, 5, 5, 0, 0, u32::MAX, 0]);
+        let mut table = [1, 1, 0, 5, 5, 0, 0, 7];
+        assert_eq!(stabilize(&mut table, 5), accept(&[0]));
+        assert_eq!(table, [1, 1, 1, 5, 5, 0, 0, 8]);
+
+        // (h), (i), (j)
+        let mut table = [0; 21];
+        assert_eq!(new(&mut table, 2, &[10, 20, 30]), accept(&[3]));
+        assert_eq!(audit(&table), accept(&[3, 3, 3, 2]));
+        assert_eq!(leave(&mut table, 10), decline(7));
+        assert_eq!(new(&mut table, 2, &[10, 20]), decline(11));
+    }
+}

@@ -1,0 +1,556 @@
+//! The rounds of the differential test. Each has its own seed, so a round that
+//! finds a difference can be run again alone.
+
+use crate::compare::{Compare, Element, Piece};
+use crate::make::{self, Raw, Space};
+use crate::random::{mix, Random};
+use crate::reference::{self, Finding};
+
+type Result = std::result::Result<(), String>;
+
+type Round = fn(&mut Compare, &mut Random) -> Result;
+
+/// The kinds of rounds in turn.
+const KINDS: [(&str, Round); 16] = [
+    ("tiny", tiny),
+    ("sound churn", sound_churn),
+    ("broken", broken),
+    ("malformed", malformed),
+    ("image", image),
+    ("new", new),
+    ("tiny", tiny),
+    ("churn", churn),
+    ("broken", broken),
+    ("malformed", malformed),
+    ("take-over", take_over),
+    ("image", image),
+    ("alike", alike),
+    ("sound churn", sound_churn),
+    ("broken", broken),
+    ("full", full),
+];
+
+/// Runs one round; the error tells what differs and how to see it again.
+pub fn round(compare: &mut Compare, seed: u64, number: u64) -> Result {
+    let mut random = Random::new(mix(seed).wrapping_add(mix(number)));
+    let turn = number as usize % KINDS.len();
+    // Full tables take long, so they come in every fourth turn only.
+    let turn = if turn == 15 && number % 64 != 15 { 14 } else { turn };
+    let (kind, run) = KINDS[turn];
+    run(compare, &mut random)
+        .map_err(|text| format!("{text}  round {number} ({kind}), seed {seed}\n"))
+}
+
+/// Lengths near the needed one.
+fn near(random: &mut Random, needed: usize) -> Vec<usize> {
+    let mut lengths = vec![needed, needed + 1, needed + random.range(2, 9)];
+    if needed > 0 {
+        lengths.extend([needed - 1, random.below(needed)]);
+    }
+    if random.one_in(4) {
+        lengths.push(0);
+    }
+    lengths
+}
+
+fn filler<T: Element>(random: &mut Random, count: usize) -> Vec<T> {
+    (0..count).map(|_| T::of(random.next() >> 8)).collect()
+}
+
+/// The identifiers of a well-formed table's members.
+fn members(words: &[u32]) -> Vec<u32> {
+    Raw::of(words).records.iter().map(|m| m.id).collect()
+}
+
+fn is_well_formed(table: &Piece<u32>) -> bool {
+    reference::audit(table.slice()).number == 0
+}
+
+/// Every call that names identifiers.
+fn member_calls(compare: &mut Compare, t: &Piece<u32>, n: u32, other: u32) -> Result {
+    compare.stabilize(t, n)?;
+    compare.rectify(t, n, other)?;
+    compare.fail(t, n)?;
+    compare.leave(t, n)?;
+    compare.lookup(t, n, other)?;
+    compare.join(t, other, n)?;
+    Ok(())
+}
+
+/// All calls on a table, with `amount` choices of identifiers.
+fn all_calls(compare: &mut Compare, random: &mut Random, t: &Piece<u32>, amount: usize) -> Result {
+    let mut callers = make::names(random, t.slice(), amount);
+    let others = make::names(random, t.slice(), amount);
+    let well_formed = is_well_formed(t);
+    if well_formed {
+        let raw = Raw::of(t.slice());
+        if !raw.records.is_empty() {
+            // Mostly live callers, and joins that lie between.
+            for caller in callers.iter_mut() {
+                if !random.one_in(5) {
+                    *caller = raw.records[random.below(raw.records.len())].id;
+                }
+            }
+            for _ in 0..amount {
+                let m = &raw.records[random.below(raw.records.len())];
+                let first = m.list[0];
+                let distance = first.wrapping_sub(m.id).wrapping_sub(1).max(1);
+                let j = match random.below(5) {
+                    0 => m.id.wrapping_add(1),
+                    1 => first.wrapping_sub(1),
+                    2 => first,
+                    _ => m.id.wrapping_add(1 + random.word() % distance),
+                };
+                compare.join(t, j, m.id)?;
+                compare.rectify(t, m.id, m.predecessor.wrapping_add(random.below(3) as u32))?;
+                compare.lookup(t, m.id, random.pick(&[m.id, first, j]))?;
+            }
+        }
+    }
+    for (&n, &other) in callers.iter().zip(&others) {
+        member_calls(compare, t, n, other)?;
+    }
+    compare.audit(t)?;
+    compare.alike_itself(t)?;
+    let count = if well_formed { t.slice()[1] as usize } else { random.below(6) };
+    for len in near(random, count) {
+        let findings = filler::<Finding>(random, len + 2);
+        compare.findings(t, &Piece::cut(&findings, len))?;
+    }
+    let bytes = match well_formed {
+        true => Raw::of(t.slice()).image().len(),
+        false => random.below(80),
+    };
+    for len in near(random, bytes) {
+        let image = filler::<u8>(random, len + 3);
+        compare.image_write(t, &Piece::cut(&image, len))?;
+    }
+    Ok(())
+}
+
+/// Few identifiers, and every call with each pair of them.
+fn tiny(compare: &mut Compare, random: &mut Random) -> Result {
+    for _ in 0..4 {
+        let (raw, pool) = make::tiny(random);
+        let t = make::with_room(random, &raw.words(), raw.r as usize + 4);
+        for &n in &pool {
+            compare.stabilize(&t, n)?;
+            compare.fail(&t, n)?;
+            compare.leave(&t, n)?;
+            for &other in &pool {
+                compare.join(&t, n, other)?;
+                compare.rectify(&t, n, other)?;
+                compare.lookup(&t, n, other)?;
+            }
+        }
+        all_calls(compare, random, &t, 1)?;
+        // A slice of each length up to the whole one.
+        for len in 0..t.len {
+            let cut = Piece::cut(&t.all, len);
+            if random.one_in(4) {
+                all_calls(compare, random, &cut, 1)?;
+            } else {
+                compare.audit(&cut)?;
+                compare.fail(&cut, raw.records.first().map_or(0, |m| m.id))?;
+            }
+        }
+    }
+    Ok(())
+}
+
+/// Well-formed tables of every shape.
+fn broken(compare: &mut Compare, random: &mut Random) -> Result {
+    for _ in 0..3 {
+        let raw = make::well_formed(random, None);
+        let t = make::with_room(random, &raw.words(), raw.r as usize + 4);
+        let amount = random.range(3, 10);
+        all_calls(compare, random, &t, amount)?;
+        // A member stabilizes several times in a row.
+        let mut t = t;
+        for n in make::names(random, t.slice(), 2) {
+            for _ in 0..4 {
+                t = Piece::whole(compare.stabilize(&t, n)?.first);
+            }
+        }
+        compare.audit(&t)?;
+    }
+    Ok(())
+}
+
+fn malformed(compare: &mut Compare, random: &mut Random) -> Result {
+    for _ in 0..6 {
+        let t = make::malformed(random);
+        all_calls(compare, random, &t, 3)?;
+        let raw = make::well_formed(random, Some(2));
+        let good = Piece::whole(raw.words());
+        compare.alike(&t, &good)?;
+        compare.alike(&good, &t)?;
+        compare.alike(&t, &t)?;
+    }
+    // Every damage of one word of a small table, one word at a time.
+    let raw = make::well_formed(random, Some(3));
+    let words = raw.words();
+    for i in 0..words.len() {
+        let mut changed = words.clone();
+        changed[i] = match random.below(3) {
+            0 => changed[i].wrapping_add(1),
+            1 => changed[i].wrapping_sub(1),
+            _ => random.pick(&[0, 1, 2, 9, 257, u32::MAX]),
+        };
+        let t = Piece::whole(changed);
+        compare.audit(&t)?;
+        let name = random.pick(&t.all);
+        member_calls(compare, &t, name, words[i])?;
+    }
+    Ok(())
+}
+
+/// A list of calls from a table made by new. The sound kind makes only losses
+/// that a withdrawal would have been granted, and must stay sound.
+fn run_churn(compare: &mut Compare, random: &mut Random, sound: bool, length: usize) -> Result {
+    let r = random.range(1, 8);
+    let n = match random.below(3) {
+        0 => r + 1,
+        _ => r + 1 + random.below(12),
+    };
+    let space = Space::any(random, n + 4);
+    let ids = space.rising(random, n);
+    let width = r + 4;
+    let room = random.pick(&[0, 1, width, 2 * width + 1, 5 * width, 20 * width]);
+    let slice = make::junk(random, 3 + n * width + room);
+    let made = compare.make(&Piece::whole(slice), r as u32, &Piece::whole(ids))?;
+    let mut t = Piece::whole(made.first);
+    if random.one_in(4) {
+        t.all[2] = u32::MAX - random.below(20) as u32;
+    }
+    let mut notices: Vec<(u32, u32)> = Vec::new();
+    for _ in 0..length {
+        let live = members(t.slice());
+        let any = |random: &mut Random| {
+            if live.is_empty() || random.one_in(12) {
+                space.pick(random)
+            } else {
+                random.pick(&live)
+            }
+        };
+        let n = any(random);
+        let outcome = match random.below(100) {
+            0..=21 => {
+                let j = space.pick(random);
+                let found = compare.lookup(&t, n, j)?.answer;
+                let p = if found.number == 0 && !random.one_in(4) { found.values[1] } else { n };
+                compare.join(&t, j, p)?
+            }
+            22..=62 => {
+                let outcome = compare.stabilize(&t, n)?;
+                let reply = outcome.answer.values;
+                // The notice may come late, twice or never.
+                if outcome.answer.number == 0 && reply[0] == 2 {
+                    for _ in 0..random.below(3) {
+                        notices.push((reply[1], n));
+                    }
+                }
+                outcome
+            }
+            63..=82 => {
+                let (at, from) = if notices.is_empty() || random.one_in(6) {
+                    (n, space.pick(random))
+                } else {
+                    notices.swap_remove(random.below(notices.len()))
+                };
+                compare.rectify(&t, at, from)?
+            }
+            83..=90 => compare.leave(&t, n)?,
+            91..=96 => {
+                let granted = compare.leave(&t, n)?;
+                if sound && granted.answer.number != 0 {
+                    granted
+                } else {
+                    compare.fail(&t, n)?
+                }
+            }
+            _ => compare.lookup(&t, n, space.pick(random))?,
+        };
+        t = Piece::whole(outcome.first);
+        let seen = compare.audit(&t)?.answer;
+        if sound && (seen.number != 0 || seen.values[3] == 0) {
+            return Err(format!("REFERENCE leaves a table that is not sound: {:?}\n", t.all));
+        }
+        if random.one_in(25) {
+            all_calls(compare, random, &t, 3)?;
+        }
+    }
+    all_calls(compare, random, &t, 4)
+}
+
+fn sound_churn(compare: &mut Compare, random: &mut Random) -> Result {
+    let length = random.range(20, 150);
+    run_churn(compare, random, true, length)
+}
+
+fn churn(compare: &mut Compare, random: &mut Random) -> Result {
+    let length = random.range(20, 150);
+    run_churn(compare, random, false, length)
+}
+
+/// Tables with up to 256 members.
+fn full(compare: &mut Compare, random: &mut Random) -> Result {
+    let r = random.pick(&[1, 2, 3, 8]);
+    let width = r as usize + 4;
+    let n = random.range(251, 256);
+    let space = Space::any(random, 300);
+    let ids = space.rising(random, n);
+    let records = random.pick(&[254, 255, 256, 256, 257, 258]).max(n);
+    let spare = random.below(2);
+    let slice = make::junk(random, 3 + records * width + spare);
+    let made = compare.make(&Piece::whole(slice), r, &Piece::whole(ids))?;
+    let mut t = Piece::whole(made.first);
+    // Joins until they are refused, then a little of everything.
+    for _ in 0..12 {
+        let j = space.pick(random);
+        let n = t.all[3];
+        let found = compare.lookup(&t, n, j)?.answer;
+        t = Piece::whole(compare.join(&t, j, found.values[1])?.first);
+        compare.join(&t, j.wrapping_add(3), n)?;
+    }
+    let live = members(t.slice());
+    for _ in 0..4 {
+        let n = random.pick(&live);
+        t = Piece::whole(compare.stabilize(&t, n)?.first);
+        t = Piece::whole(compare.rectify(&t, n, space.pick(random))?.first);
+        t = Piece::whole(compare.fail(&t, random.pick(&live))?.first);
+        compare.leave(&t, n)?;
+    }
+    compare.findings(&t, &Piece::whole(filler(random, 256)))?;
+    // An image of it, and one more member than there may be.
+    let mut raw = Raw::of(t.slice());
+    let out = filler::<u8>(random, raw.image().len());
+    let written = compare.image_write(&t, &Piece::whole(out))?;
+    read_image(compare, random, &Piece::whole(written.second))?;
+    let mut next = raw.records[0].clone();
+    raw.records.retain(|m| m.id != u32::MAX);
+    next.id = u32::MAX;
+    raw.records.push(next);
+    raw.count = raw.records.len() as u32;
+    let more = Piece::whole(raw.image());
+    read_image(compare, random, &more)?;
+    let t = make::with_room(random, &raw.words(), width);
+    compare.audit(&t)?;
+    compare.join(&t, 5, raw.records[3].id)?;
+
+    // 255 to 258 records, well-formed but for that.
+    let n = random.range(255, 258);
+    let mut raw = make::well_formed(random, Some(n));
+    let t = make::with_room(random, &raw.words(), raw.r as usize + 4);
+    compare.audit(&t)?;
+    for n in make::names(random, t.slice(), 2) {
+        member_calls(compare, &t, n, n.wrapping_add(1))?;
+    }
+    read_image(compare, random, &Piece::whole(raw.image()))?;
+    raw.count = random.range(254, 258) as u32;
+    compare.audit(&Piece::whole(raw.words()))?;
+    read_image(compare, random, &Piece::whole(raw.image()))
+}
+
+fn new(compare: &mut Compare, random: &mut Random) -> Result {
+    for _ in 0..40 {
+        let r =
+            random.pick(&[0, 1, 2, 3, 4, 5, 6, 7, 8, 9, 1, 2, 3, 8, 10, u32::MAX, u32::MAX - 3]);
+        let least = (r.min(12) + 1) as usize;
+        let n = match random.below(12) {
+            0 => 0,
+            1 => 1,
+            2 => least - 1,
+            3 => random.range(254, 258),
+            4 => random.range(0, 12),
+            5 => least,
+            _ => least + random.below(8),
+        };
+        let space = Space::any(random, n + 1);
+        let mut ids = space.rising(random, n);
+        match random.below(6) {
+            0 if n > 1 => {
+                let i = random.range(1, n - 1);
+                ids[i] = ids[i - 1];
+            }
+            1 if n > 1 => {
+                let i = random.range(1, n - 1);
+                ids.swap(i - 1, i);
+            }
+            _ => {}
+        }
+        // More identifiers stand behind the lent ones.
+        let mut behind = ids.clone();
+        behind.extend(ids.last().map_or([7, 8], |l| [l.wrapping_add(1), l.wrapping_add(2)]));
+        let ids = Piece::cut(&behind, n);
+        let needed = 3 + n * (r.min(12) as usize + 4);
+        for len in near(random, needed) {
+            let words = make::junk(random, len + 4);
+            compare.make(&Piece::cut(&words, len), r, &ids)?;
+        }
+    }
+    Ok(())
+}
+
+fn take_over(compare: &mut Compare, random: &mut Random) -> Result {
+    for _ in 0..300 {
+        let space = Space::any(random, 3);
+        let [own, h, c] = [(); 3].map(|_| space.pick(random));
+        let lists = [(); 2].map(|_| {
+            let count = random.below(10);
+            let words = make::junk(random, count + 2);
+            Piece::cut(&words, if random.one_in(4) { 0 } else { count })
+        });
+        compare.take_over(own, h, c, &lists[0], &lists[1])?;
+    }
+    Ok(())
+}
+
+/// Two tables, equal but for one thing or two.
+fn alike(compare: &mut Compare, random: &mut Random) -> Result {
+    for _ in 0..40 {
+        let raw = make::well_formed(random, None);
+        let mut other = raw.clone();
+        let n = other.records.len();
+        let i = random.below(n.max(1));
+        match random.below(9) {
+            0 => other.steps = other.steps.wrapping_add(1),
+            1 => {
+                other.r = random.range(1, 8) as u32;
+                for m in &mut other.records {
+                    m.list.resize(other.r as usize, 5);
+                }
+            }
+            2 if n > 0 => other.records[i].list[0] ^= 1 << random.below(32),
+            3 if n > 0 => *other.records[i].list.last_mut().unwrap() ^= 1,
+            4 if n > 0 => other.records[i].predecessor ^= 1,
+            5 if n > 0 => {
+                other.records[i].pending = 1;
+                other.records[i].candidate = random.word();
+            }
+            6 if n > 0 => other.records[n - 1].id = u32::MAX,
+            7 if n > 0 => {
+                other.records.remove(i);
+                other.count -= 1;
+            }
+            _ => {}
+        }
+        let a = make::with_room(random, &raw.words(), 9);
+        let b = make::with_room(random, &other.words(), 9);
+        compare.alike(&a, &b)?;
+        compare.alike(&b, &a)?;
+    }
+    Ok(())
+}
+
+/// A whole image read into slices of several lengths.
+fn read_image(compare: &mut Compare, random: &mut Random, image: &Piece<u8>) -> Result {
+    let bytes = image.slice();
+    let needed = match bytes.len() {
+        0..=9 => random.below(20),
+        _ => {
+            let count = bytes[4] as usize * 256 + bytes[5] as usize;
+            (3 + count * (bytes[3] as usize + 4)).min(4000)
+        }
+    };
+    let lengths = near(random, needed);
+    for len in lengths {
+        let words = make::junk(random, len + 4);
+        compare.image_read(&Piece::cut(&words, len), image)?;
+    }
+    Ok(())
+}
+
+/// The field reader at the positions of a small image, at the borders and some
+/// others of a large one, and far outside.
+fn read_fields(compare: &mut Compare, random: &mut Random, image: &Piece<u8>) -> Result {
+    let len = image.len;
+    let mut positions: Vec<usize> = vec![
+        usize::MAX,
+        usize::MAX - 2,
+        usize::MAX - 12,
+        (1u64 << 32) as usize,
+        ((1u64 << 32) + 10) as usize,
+        len + random.below(2000),
+    ];
+    if len <= 120 {
+        positions.extend(0..len + 5);
+    } else {
+        positions.extend([0, 1, 9, 10, 11, len - 4, len - 3, len - 2, len - 1, len]);
+        positions.extend((0..10).map(|_| random.below(len)));
+    }
+    if len > 5 {
+        let step = 16 + 4 * image.all[3] as usize;
+        let count = image.all[4] as usize * 256 + image.all[5] as usize;
+        for i in [0, 1, 2, count.saturating_sub(1), count, count + 1] {
+            let border = 10 + i * step;
+            positions.extend([border - 1, border, border + 1, border + 3]);
+        }
+    }
+    for position in positions {
+        compare.image_field(image, position)?;
+    }
+    Ok(())
+}
+
+/// Images written, read back and damaged.
+fn image(compare: &mut Compare, random: &mut Random) -> Result {
+    let count = if random.one_in(2) { Some(random.below(4)) } else { None };
+    let raw = make::well_formed(random, count);
+    let t = make::with_room(random, &raw.words(), raw.r as usize + 4);
+    let whole = raw.image();
+    let spare = random.below(3);
+    let out = filler::<u8>(random, whole.len() + spare);
+    let written = compare.image_write(&t, &Piece::whole(out))?;
+    if written.second[..whole.len()] != whole {
+        return Err(format!("REFERENCE writes another image of {:?}\n", t.all));
+    }
+    let image = Piece::whole(whole.clone());
+    read_image(compare, random, &image)?;
+    read_fields(compare, random, &image)?;
+
+    // Cut short, with the rest behind the slice.
+    let record = 16 + 4 * raw.r as usize;
+    for len in 0..whole.len() {
+        let from_border = (len + record - 10 % record) % record;
+        let at_border = from_border <= 4 || from_border + 4 >= record || len < 16;
+        if whole.len() <= 120 || at_border || len + 8 > whole.len() {
+            let cut = Piece::cut(&whole, len);
+            compare.image_read(&t, &cut)?;
+            compare.image_field(&cut, 0)?;
+            compare.image_field(&cut, len.saturating_sub(from_border))?;
+            compare.image_field(&cut, len.saturating_sub(3))?;
+        }
+    }
+    // Each byte changed.
+    if whole.len() <= 300 {
+        for i in 0..whole.len() {
+            let mut changed = whole.clone();
+            changed[i] ^= 1 << random.below(8);
+            let changed = Piece::whole(changed);
+            compare.image_read(&t, &changed)?;
+            compare.image_field(&changed, i.saturating_sub(i % 3))?;
+        }
+    }
+    for _ in 0..30 {
+        let changed = Piece::whole(make::damaged(random, &raw));
+        read_image(compare, random, &changed)?;
+        if random.one_in(3) {
+            read_fields(compare, random, &changed)?;
+        }
+    }
+    // Random bytes, with and without a head.
+    for _ in 0..6 {
+        let len = random.below(90);
+        let mut bytes = filler::<u8>(random, len);
+        let head = [1, 0, 7, random.below(10) as u8, 0, random.below(4) as u8, 0, 0, 0, 9];
+        let given = random.below(11).min(bytes.len());
+        bytes[..given].copy_from_slice(&head[..given]);
+        let bytes = Piece::whole(bytes);
+        read_image(compare, random, &bytes)?;
+        read_fields(compare, random, &bytes)?;
+    }
+    // A head that asks for much: due fields far past the end.
+    let bytes = Piece::whole(vec![1, 0, 7, 255, 255, 255, 0, 0, 0, 0, 2, 4, 9, 0]);
+    read_fields(compare, random, &bytes)
+}
