@@ -1,0 +1,267 @@
+//! The calls over the decoded table.
+
+use super::*;
+
+pub fn new(table: &mut [u32], r: u32, ids: &[u32]) -> Answer {
+    let rising = ids.windows(2).all(|pair| pair[0] < pair[1]);
+    if !(1..=8).contains(&r) || !rising || ids.len() < r as usize + 1 || ids.len() > MOST {
+        return decline(11);
+    }
+    let (r, n) = (r as usize, ids.len());
+    let members = (0..n)
+        .map(|i| Member {
+            identifier: ids[i],
+            predecessor: ids[(i + n - 1) % n],
+            pending: false,
+            candidate: 0,
+            list: (1..=r).map(|ahead| ids[(i + ahead) % n]).collect(),
+        })
+        .collect();
+    let made = Table { r, steps: 0, members };
+    if table.len() < made.length() {
+        return decline(10);
+    }
+    made.put(table);
+    accept(&[made.count()])
+}
+
+pub fn join(table: &mut [u32], j: u32, p: u32) -> Answer {
+    let Some(mut t) = Table::decode(table) else {
+        return decline(1);
+    };
+    if t.is_live(j) {
+        return decline(2);
+    }
+    let Some(by) = t.member(p).cloned() else {
+        return decline(3);
+    };
+    if !between(p, j, by.first_entry()) {
+        return decline(4);
+    }
+    if t.members.len() == MOST || table.len() - t.length() < t.width() {
+        return decline(5);
+    }
+    let place = t.members.iter().filter(|m| m.identifier < j).count();
+    t.members.insert(
+        place,
+        Member { identifier: j, predecessor: p, pending: false, candidate: 0, list: by.list },
+    );
+    t.put(table);
+    accept(&[t.count()])
+}
+
+pub fn stabilize(table: &mut [u32], n: u32) -> Answer {
+    let Some(mut t) = Table::decode(table) else {
+        return decline(1);
+    };
+    let Some(place) = t.place(n) else {
+        return decline(3);
+    };
+    let mut member = t.members[place].clone();
+    let reply;
+    if member.pending {
+        if let Some(candidate) = t.member(member.candidate) {
+            member.adopt(candidate);
+        }
+        member.pending = false;
+        member.candidate = 0;
+        reply = accept(&[2, member.first_entry()]);
+    } else {
+        let h = member.first_entry();
+        match t.member(h) {
+            None => {
+                member.drop_head();
+                reply = accept(&[0]);
+            }
+            Some(head) => {
+                member.adopt(head);
+                let c = head.predecessor;
+                if between(n, c, h) {
+                    member.pending = true;
+                    member.candidate = c;
+                    reply = accept(&[1, c]);
+                } else {
+                    reply = accept(&[2, h]);
+                }
+            }
+        }
+    }
+    t.members[place] = member;
+    if t.steps < u32::MAX {
+        t.steps += 1;
+    }
+    t.put(table);
+    reply
+}
+
+pub fn rectify(table: &mut [u32], n: u32, q: u32) -> Answer {
+    let Some(mut t) = Table::decode(table) else {
+        return decline(1);
+    };
+    let Some(place) = t.place(n) else {
+        return decline(3);
+    };
+    let predecessor = t.members[place].predecessor;
+    if !between(predecessor, q, n) && t.is_live(predecessor) {
+        return accept(&[0]);
+    }
+    t.members[place].predecessor = q;
+    t.put(table);
+    accept(&[1])
+}
+
+/// Takes out the record at a place and zeroes the words it frees.
+fn put_without(table: &mut [u32], mut t: Table, place: usize) -> Answer {
+    t.members.remove(place);
+    t.put(table);
+    table[t.length()..t.length() + t.width()].fill(0);
+    accept(&[t.count()])
+}
+
+pub fn fail(table: &mut [u32], n: u32) -> Answer {
+    let Some(t) = Table::decode(table) else {
+        return decline(1);
+    };
+    let Some(place) = t.place(n) else {
+        return decline(3);
+    };
+    put_without(table, t, place)
+}
+
+pub fn leave(table: &mut [u32], n: u32) -> Answer {
+    let Some(t) = Table::decode(table) else {
+        return decline(1);
+    };
+    let Some(place) = t.place(n) else {
+        return decline(3);
+    };
+    let mut afterwards = t.clone();
+    afterwards.members.remove(place);
+    if !afterwards.all_have_a_live_entry() {
+        return decline(6);
+    }
+    if afterwards.principal_count() < t.r + 1 {
+        return decline(7);
+    }
+    put_without(table, t, place)
+}
+
+pub fn lookup(table: &[u32], n: u32, k: u32) -> Answer {
+    let Some(t) = Table::decode(table) else {
+        return decline(1);
+    };
+    let Some(mut at) = t.member(n) else {
+        return decline(3);
+    };
+    let mut moves = 0;
+    loop {
+        let q = at.identifier;
+        let Some(b) = t.first_live(at) else {
+            return Answer { number: 8, values: [q, 0, 0, 0] };
+        };
+        if k == b || between(q, k, b) {
+            return accept(&[b, q, moves]);
+        }
+        at = t.member(b).expect("a live entry names a member");
+        moves += 1;
+        assert!(moves < t.count(), "moves made are fewer than the members");
+    }
+}
+
+pub fn audit(table: &[u32]) -> Answer {
+    match Table::decode(table) {
+        None => decline(1),
+        Some(t) => t.audit(),
+    }
+}
+
+pub fn findings(table: &[u32], findings: &mut [Finding]) -> Answer {
+    let Some(t) = Table::decode(table) else {
+        return decline(1);
+    };
+    if findings.len() < t.members.len() {
+        return decline(10);
+    }
+    let principals = t.principals();
+    let moves = t.moves_to_ring();
+    for (i, m) in t.members.iter().enumerate() {
+        findings[i] =
+            Finding { id: m.identifier, principal: principals[i] as u32, moves: moves[i] };
+    }
+    t.audit()
+}
+
+pub fn alike(a: &[u32], b: &[u32]) -> Answer {
+    let (Some(a), Some(b)) = (Table::decode(a), Table::decode(b)) else {
+        return decline(1);
+    };
+    let shown = |t: &Table| -> Vec<(u32, u32)> {
+        t.members.iter().map(|m| (m.identifier, m.first_entry())).collect()
+    };
+    accept(&[(a.r == b.r && shown(&a) == shown(&b)) as u32])
+}
+
+pub fn take_over(own: u32, h: u32, c: u32, h_list: &[u32], c_list: &[u32]) -> Answer {
+    let from_c = !c_list.is_empty() && between(own, c, h);
+    let list = if from_c { c_list } else { h_list };
+    let part = match list.split_last() {
+        None => list,
+        Some((_, part)) => part,
+    };
+    accept(&[from_c as u32, part.len() as u32])
+}
+
+pub fn image_write(table: &[u32], image: &mut [u8]) -> Answer {
+    let Some(t) = Table::decode(table) else {
+        return decline(1);
+    };
+    let written = t.image();
+    if image.len() < written.len() {
+        return decline(10);
+    }
+    image[..written.len()].copy_from_slice(&written);
+    accept(&[written.len() as u32])
+}
+
+pub fn image_read(table: &mut [u32], image: &[u8]) -> Answer {
+    let Some(t) = Table::of_image(image) else {
+        return decline(9);
+    };
+    if table.len() < t.length() {
+        return decline(10);
+    }
+    t.put(table);
+    accept(&[t.count()])
+}
+
+/// The field due at a position as tag and length, which follows from the tag 1
+/// field alone.
+fn due(image: &[u8], position: usize) -> Option<(u8, usize)> {
+    if position == 0 {
+        return Some((1, 7));
+    }
+    let head = field_with(image, 0, 1, 7)?;
+    let r = image[head.contents] as usize;
+    let count = two_bytes(&image[head.contents + 1..]) as usize;
+    let record = 13 + 4 * r;
+    let end = head.next + count * (3 + record);
+    if position == end {
+        return Some((3, 0));
+    }
+    if position >= head.next && position < end && (position - head.next) % (3 + record) == 0 {
+        return Some((2, record));
+    }
+    None
+}
+
+pub fn image_field(image: &[u8], position: usize) -> Answer {
+    let Some((tag, length)) = due(image, position) else {
+        return decline(9);
+    };
+    match field_with(image, position, tag, length) {
+        None => decline(9),
+        Some(field) => {
+            accept(&[tag as u32, field.contents as u32, length as u32, field.next as u32])
+        }
+    }
+}

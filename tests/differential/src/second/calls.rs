@@ -1,0 +1,359 @@
+//! The calls of the table, in place.
+
+use super::*;
+
+pub fn new(table: &mut [u32], r: u32, ids: &[u32]) -> Answer {
+    let n = ids.len();
+    let least = if planted(Fault::NewFew) { r as u64 } else { r as u64 + 1 };
+    let bad =
+        r == 0 || r > 8 || n > 256 || (n as u64) < least || (1..n).any(|i| ids[i - 1] >= ids[i]);
+    let short = (n as u64 * (r as u64 + 4)) + 3 > table.len() as u64;
+    if bad && !(planted(Fault::NewTen) && short) {
+        return no(11);
+    }
+    if short {
+        return no(10);
+    }
+    if planted(Fault::WordAfterNew) {
+        table.fill(0);
+    }
+    table[0] = r;
+    table[1] = n as u32;
+    table[2] = 0;
+    for i in 0..n {
+        let o = offset(table, i);
+        table[o] = ids[i];
+        table[o + 1] = if i == 0 { ids[n - 1] } else { ids[i - 1] };
+        table[o + 2] = 0;
+        table[o + 3] = 0;
+        let mut k = i;
+        for e in 0..r as usize {
+            k = if k + 1 == n { 0 } else { k + 1 };
+            table[o + 4 + e] = ids[k];
+        }
+    }
+    yes(n as u32, 0, 0, 0)
+}
+
+pub fn join(table: &mut [u32], j: u32, p: u32) -> Answer {
+    if !formed(table) {
+        return no(1);
+    }
+    let by = find(table, p);
+    if planted(Fault::JoinThreeFirst) && by.is_none() {
+        return no(3);
+    }
+    if find(table, j).is_some() {
+        return no(2);
+    }
+    let Some(by) = by else {
+        return no(3);
+    };
+    let w = width(table);
+    let most = if planted(Fault::JoinMost) { 255 } else { 256 };
+    let room = table.len() - end(table);
+    let needed = if planted(Fault::JoinRoom) { w + 1 } else { w };
+    let full = size(table) >= most || room < needed;
+    if planted(Fault::JoinFourLate) && full {
+        return no(5);
+    }
+    if !between(p, j, list(table, by)[0]) {
+        return no(4);
+    }
+    if full {
+        return no(5);
+    }
+    let record = table[offset(table, by)..offset(table, by + 1)].to_vec();
+    let mut at = size(table);
+    while at > 0 && id(table, at - 1) > j {
+        at -= 1;
+    }
+    let (from, to) = (offset(table, at), end(table));
+    table.copy_within(from..to, from + w);
+    table[from] = j;
+    table[from + 1] = if planted(Fault::JoinPredecessor) { record[1] } else { p };
+    table[from + 2] = 0;
+    table[from + 3] = 0;
+    if planted(Fault::JoinPending) {
+        table[from + 2..from + 4].copy_from_slice(&record[2..4]);
+    }
+    table[from + 4..from + w].copy_from_slice(&record[4..]);
+    table[1] += 1;
+    if planted(Fault::WordAfterTable) && end(table) < table.len() {
+        let o = end(table);
+        table[o] = 0;
+    }
+    yes(table[1], 0, 0, 0)
+}
+
+/// Puts h in front of the list at `to`, with the list at `from` behind it.
+fn take(table: &mut [u32], to: usize, from: usize) {
+    let h = id(table, from);
+    let (o, source) = (offset(table, to) + 4, offset(table, from) + 4);
+    let length = width(table) - 4;
+    if planted(Fault::OwnHead) && from == to {
+        table[o..o + length].fill(h);
+        return;
+    }
+    table.copy_within(source..source + length - 1, o + 1);
+    table[o] = h;
+}
+
+pub fn stabilize(table: &mut [u32], n: u32) -> Answer {
+    if !formed(table) {
+        return no(1);
+    }
+    let Some(i) = find(table, n) else {
+        return no(3);
+    };
+    let o = offset(table, i);
+    let (first, last) = (o + 4, o + width(table) - 1);
+    let h = table[first];
+    let answer;
+    if table[o + 2] == 1 {
+        let c = table[o + 3];
+        match find(table, c) {
+            Some(place) => take(table, i, place),
+            None if planted(Fault::AdoptUnseen) => {
+                table.copy_within(first..last, first + 1);
+                table[first] = c;
+            }
+            None => {}
+        }
+        let named = if planted(Fault::DoneNamesCandidate) { c } else { table[first] };
+        if !(planted(Fault::LookKept) && find(table, c).is_none()) {
+            table[o + 2] = 0;
+            if !planted(Fault::CandidateKept) {
+                table[o + 3] = 0;
+            }
+        }
+        answer = yes(2, named, 0, 0);
+    } else if let Some(place) = find(table, h) {
+        let c = table[offset(table, place) + 1];
+        take(table, i, place);
+        if between(n, c, h) {
+            table[o + 2] = 1;
+            table[o + 3] = c;
+            answer = yes(1, c, 0, 0);
+        } else {
+            answer = yes(2, h, 0, 0);
+        }
+    } else {
+        let old = table[last];
+        table.copy_within(first + 1..last + 1, first);
+        table[last] = if planted(Fault::FillWithLast) {
+            old
+        } else if planted(Fault::AfterWraps) {
+            old.saturating_add(1)
+        } else if planted(Fault::HeadAppended) {
+            h
+        } else {
+            old.wrapping_add(1)
+        };
+        answer = yes(0, 0, 0, 0);
+    }
+    if planted(Fault::StepWraps) {
+        table[2] = table[2].wrapping_add(1);
+    } else if !planted(Fault::StepNotCounted)
+        && !(planted(Fault::AgainNotCounted) && answer.values[0] == 0)
+    {
+        table[2] = table[2].saturating_add(1);
+    }
+    answer
+}
+
+pub fn rectify(table: &mut [u32], n: u32, q: u32) -> Answer {
+    if !formed(table) {
+        return no(1);
+    }
+    let Some(i) = find(table, n) else {
+        return no(3);
+    };
+    let o = offset(table, i) + 1;
+    let old = table[o];
+    let dead = find(table, old).is_none() && !planted(Fault::RectifyAlive);
+    if dead || between(old, q, n) {
+        table[o] = q;
+        return yes((old != q || !planted(Fault::RectifySame)) as u32, 0, 0, 0);
+    }
+    yes(0, 0, 0, 0)
+}
+
+fn remove(table: &mut [u32], i: usize) -> Answer {
+    let (o, w, to) = (offset(table, i), width(table), end(table));
+    table.copy_within(o + w..to, o);
+    if !planted(Fault::FreedNotZeroed) {
+        table[to - w..to].fill(0);
+    }
+    if planted(Fault::FreedOneTooMany) && to < table.len() {
+        table[to] = 0;
+    }
+    table[1] -= 1;
+    if planted(Fault::PastSlice) {
+        unsafe { table.as_mut_ptr().add(table.len()).write_volatile(0) };
+    }
+    yes(table[1], 0, 0, 0)
+}
+
+pub fn fail(table: &mut [u32], n: u32) -> Answer {
+    if !formed(table) {
+        return no(1);
+    }
+    match find(table, n) {
+        None => no(3),
+        Some(i) => remove(table, i),
+    }
+}
+
+pub fn leave(table: &mut [u32], n: u32) -> Answer {
+    if !formed(table) {
+        return no(1);
+    }
+    let Some(i) = find(table, n) else {
+        return no(3);
+    };
+    // Judged as if the record were gone.
+    let dead = (0..size(table)).any(|m| {
+        (m != i || planted(Fault::SixOwn))
+            && !list(table, m)
+                .iter()
+                .any(|&e| (planted(Fault::SixBefore) || e != n) && find(table, e).is_some())
+    });
+    let before = planted(Fault::SevenBefore);
+    let left = (0..size(table))
+        .filter(|&m| {
+            if before {
+                unskipped(table, id(table, m), None)
+            } else {
+                let without = if planted(Fault::SevenOwn) { None } else { Some(i) };
+                m != i && unskipped(table, id(table, m), without)
+            }
+        })
+        .count();
+    let few = left <= table[0] as usize;
+    if dead && !(few && planted(Fault::SevenOverSix)) {
+        return no(6);
+    }
+    if few {
+        if planted(Fault::RefusalWrites) {
+            remove(table, i);
+        }
+        return no(7);
+    }
+    remove(table, i)
+}
+
+pub fn lookup(table: &[u32], n: u32, k: u32) -> Answer {
+    if !formed(table) {
+        return no(1);
+    }
+    let Some(start) = find(table, n) else {
+        return no(3);
+    };
+    if planted(Fault::FindOwnKey) && k == n {
+        return yes(n, n, 0, 0);
+    }
+    let mut q = start;
+    for moves in 0..size(table) as u32 {
+        let next = if planted(Fault::FindFirstEntry) {
+            find(table, list(table, q)[0])
+        } else {
+            first_live(table, q)
+        };
+        let Some(b) = next else {
+            let member = if planted(Fault::FindWrongEight) { start } else { q };
+            return Answer { number: 8, values: [id(table, member), 0, 0, 0] };
+        };
+        if k == id(table, b) || between(id(table, q), k, id(table, b)) {
+            let moves = moves + planted(Fault::FindLastMove) as u32;
+            return yes(id(table, b), id(table, q), moves, 0);
+        }
+        q = b;
+    }
+    // Only a planted fault comes here.
+    no(0)
+}
+
+/// The slice and the word behind it, which only a planted fault touches.
+fn one_more(table: &[u32]) -> &[u32] {
+    // Every slice of the harness has a guard behind it.
+    unsafe { std::slice::from_raw_parts(table.as_ptr(), table.len() + 1) }
+}
+
+pub fn audit(table: &[u32]) -> Answer {
+    if planted(Fault::PastSliceRead) && formed(one_more(table)) {
+        return report(one_more(table));
+    }
+    if !formed(table) {
+        return no(1);
+    }
+    report(table)
+}
+
+pub fn findings(table: &[u32], findings: &mut [Finding]) -> Answer {
+    if !formed(table) {
+        return no(1);
+    }
+    let n = size(table);
+    if findings.len() < n && !planted(Fault::FindingsShort) {
+        return no(10);
+    }
+    let on = ring(table);
+    for (i, finding) in findings.iter_mut().enumerate() {
+        if i >= n {
+            if planted(Fault::FindingsRest) {
+                *finding = Finding { id: 0, principal: 0, moves: 0 };
+            }
+            continue;
+        }
+        let mut moves = 0;
+        let mut at = Some(i);
+        while let Some(place) = at {
+            if on[place] {
+                break;
+            }
+            moves += 1;
+            at = first_live(table, place);
+        }
+        if at.is_none() {
+            moves = if planted(Fault::FindingsLost) { 0 } else { n as u32 };
+        }
+        *finding = Finding {
+            id: id(table, i),
+            principal: unskipped(table, id(table, i), None) as u32,
+            moves,
+        };
+    }
+    if findings.len() < n {
+        return no(10);
+    }
+    report(table)
+}
+
+pub fn alike(a: &[u32], b: &[u32]) -> Answer {
+    if !formed(a) || (!formed(b) && !planted(Fault::AlikeSecond)) {
+        return no(1);
+    }
+    if !formed(b) {
+        return yes(0, 0, 0, 0);
+    }
+    let mut same = (a[0] == b[0] || planted(Fault::AlikeR)) && a[1] == b[1];
+    if planted(Fault::AlikeSteps) {
+        same = same && a[2] == b[2];
+    }
+    for i in 0..size(a) {
+        same = same && id(a, i) == id(b, i);
+        same = same && (list(a, i)[0] == list(b, i)[0] || planted(Fault::AlikeFirst));
+    }
+    yes(same as u32, 0, 0, 0)
+}
+
+pub fn take_over(own: u32, h: u32, c: u32, h_list: &[u32], c_list: &[u32]) -> Answer {
+    let better = between(own, c, h);
+    let c_wins = better && (!c_list.is_empty() || planted(Fault::TakeOverEmpty));
+    let chosen = if c_wins { c_list.len() } else { h_list.len() };
+    let length = if planted(Fault::TakeOverLast) { chosen } else { chosen.saturating_sub(1) };
+    yes(c_wins as u32, length as u32, 0, 0)
+}
+
+// The image: a record takes 16 + 4r bytes, the head 10, the end 3.
