@@ -3,7 +3,7 @@
 
 mod images;
 
-use images::image;
+use images::{image, read_image};
 
 use crate::compare::{Compare, Element, Piece};
 use crate::make::{self, Raw, Space};

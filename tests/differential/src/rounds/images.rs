@@ -3,7 +3,7 @@
 use super::*;
 
 /// A whole image read into slices of several lengths.
-fn read_image(compare: &mut Compare, random: &mut Random, image: &Piece<u8>) -> Result {
+pub fn read_image(compare: &mut Compare, random: &mut Random, image: &Piece<u8>) -> Result {
     let bytes = image.slice();
     let needed = match bytes.len() {
         0..=9 => random.below(20),
