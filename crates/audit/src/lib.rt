@@ -10,8 +10,8 @@ ghost use Rattle.ring.specs.Places.{BestPlaces};
 ghost use Rattle.reply.specs.Answers.{answerOf};
 use reply::Reply;
 
-// The verdict on a table with so many principals: 0 not sound, 1 sound, 2 sound and ideal.
-fn verdict_of(t: &[u32], best: &[usize; 256], count: usize) -> u32
+// The verdict on a table with so many principals: 0 not sound, 1 sound, 2 sound and ideal. Public for the findings, which count them themselves.
+pub fn verdict_of(t: &[u32], best: &[usize; 256], count: usize) -> u32
     requires { ⌜ Formed (now t) ⌝ }
     requires { ⌜ BestPlaces (now t) (now best) ⌝ }
     requires { ⌜ count ≡ principals (membersIn (now t)) ⌝ }

@@ -8,3 +8,4 @@ pub mod Tables
 pub mod Removed
 pub mod Parts
 pub mod Accepted
+pub mod Bytes

@@ -10,4 +10,5 @@ pub mod Runs
 pub mod New
 pub mod Lookup
 pub mod Moves
+pub mod Images
 pub mod Demand3

@@ -1,0 +1,111 @@
+// Numbers as bytes, high byte first, and one member's field of an image. For `image`; a caller of the library uses none of this.
+ghost use mathlib.Core.Path.{_≡_};
+ghost use mathlib.Core.List.{_∷_};
+ghost use Prim.Native.Nat.{_+_, _*_, _≤_, _<_};
+ghost use lib.ListN.{length, drop};
+ghost use Rattle.model.specs.Table.{recordSize, memberOf, recordOf};
+ghost use Rattle.model.specs.Image.{bytesOf, numberAt, words4, memberField, numbersAt, fieldMember};
+ghost use Rattle.laws.specs.Bytes.{fieldSize};
+ghost use Rattle.fields.specs.Placed.{placed, headIs};
+
+// The number in the two bytes at a position.
+pub fn number2(bs: &[u8], at: usize) -> usize
+    requires { ⌜ at + 2 ≤ length (now bs) ⌝ }
+    ensures { λ x. ⌜ (x ≡ numberAt (now (bs .entry)) at 2) × (x < 65536) ⌝ }
+{
+    bs[at] as usize * 256 + bs[at + 1] as usize
+}
+
+// The number in the four bytes at a position.
+pub fn number4(bs: &[u8], at: usize) -> u32
+    requires { ⌜ at + 4 ≤ length (now bs) ⌝ }
+    ensures { λ x. ⌜ x ≡ numberAt (now (bs .entry)) at 4 ⌝ }
+{
+    let high = number2(bs, at);
+    let low = number2(bs, at + 2);
+    (high * 65536 + low) as u32
+}
+
+// Does a field of this tag and length begin at the front?
+pub fn head_is(bs: &[u8], tag: u8, len: usize) -> bool
+    requires { ⌜ 3 ≤ length (now bs) ⌝ }
+    ensures { λ b. ⌜ b ≡ headIs (now (bs .entry)) tag len ⌝ }
+{
+    if bs[0] == tag {
+        let n = number2(bs, 1);
+        return n == len;
+    }
+    false
+}
+
+// A number in the four bytes from a position on.
+pub fn put4(out: &mut [u8], at: usize, x: u32)
+    requires { ⌜ at + 4 ≤ length (now out) ⌝ }
+    ensures { λ _. ⌜ now (out .exit) ≡ placed at (bytesOf 4 x) (now (out .entry)) ⌝ }
+{
+    out[at] = (x / 256 / 256 / 256 % 256) as u8;
+    out[at + 1] = (x / 256 / 256 % 256) as u8;
+    out[at + 2] = (x / 256 % 256) as u8;
+    out[at + 3] = (x % 256) as u8;
+}
+
+// The head of a field: its tag and the length of its contents.
+pub fn put_head(out: &mut [u8], at: usize, tag: u8, len: usize)
+    requires { ⌜ at + 3 ≤ length (now out) ⌝ }
+    ensures { λ _. ⌜ now (out .exit) ≡ placed at (tag ∷ bytesOf 2 len) (now (out .entry)) ⌝ }
+{
+    out[at] = tag;
+    out[at + 1] = (len / 256 % 256) as u8;
+    out[at + 2] = (len % 256) as u8;
+}
+
+// Words, each as a number of four bytes.
+pub fn put_words(out: &mut [u8], at: usize, ws: &[u32])
+    requires { ⌜ at + 4 * length (now ws) ≤ length (now out) ⌝ }
+    ensures { λ _. ⌜ now (out .exit) ≡ placed at (words4 (now (ws .entry))) (now (out .entry)) ⌝ }
+{
+    let mut p = ws;
+    let mut o = at;
+    while 0 < p.len() {
+        put4(out, o, p[0]);
+        p = &p[1..];
+        o += 4;
+    }
+}
+
+// The field of the member whose record stands at the front of ws.
+pub fn write_field(out: &mut [u8], at: usize, ws: &[u32], r: usize)
+    requires { ⌜ (r ≤ 8) × (recordSize r ≤ length (now ws)) × (at + fieldSize r ≤ length (now out)) ⌝ }
+    ensures { λ _. ⌜ now (out .exit) ≡ placed at (memberField (memberOf r (now (ws .entry)))) (now (out .entry)) ⌝ }
+{
+    put_head(out, at, 2, 13 + 4 * r);
+    put_words(out, at + 3, &ws[0..2]);
+    out[at + 11] = (ws[2] % 256) as u8;
+    put_words(out, at + 12, &ws[3..r + 4]);
+}
+
+// n words, each from four bytes.
+pub fn get_words(t: &mut [u32], at: usize, bs: &[u8], n: usize)
+    requires { ⌜ (4 * n ≤ length (now bs)) × (at + n ≤ length (now t)) ⌝ }
+    ensures { λ _. ⌜ now (t .exit) ≡ placed at (numbersAt n (now (bs .entry))) (now (t .entry)) ⌝ }
+{
+    let mut p = bs;
+    let mut o = at;
+    let mut left = n;
+    while 0 < left {
+        t[o] = number4(p, 0);
+        p = &p[4..];
+        o += 1;
+        left -= 1;
+    }
+}
+
+// The record of the member whose field stands at the front of bs.
+pub fn read_field(t: &mut [u32], at: usize, bs: &[u8], r: usize)
+    requires { ⌜ (r ≤ 8) × (fieldSize r ≤ length (now bs)) × (at + recordSize r ≤ length (now t)) ⌝ }
+    ensures { λ _. ⌜ now (t .exit) ≡ placed at (recordOf (fieldMember r (drop 3 (now (bs .entry))))) (now (t .entry)) ⌝ }
+{
+    get_words(t, at, &bs[3..], 2);
+    t[at + 2] = bs[11] as u32;
+    get_words(t, at + 3, &bs[12..], r + 1);
+}

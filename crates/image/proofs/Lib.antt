@@ -1,0 +1,4 @@
+-- Laws that the proofs of this crate cite.
+pub mod Due
+pub mod Turns
+pub mod Whole

@@ -1,0 +1,55 @@
+-- `fields_ok` meets its contract. The loop's invariant: the test of the fields that are left is that of all. Assumes nothing.
+use Prim.Native.Nat.{ℕ, _+_, _*_, _-_, _≤_}
+use mathlib.Core.Path.{_≡_, sym, ap, _∙_}
+use native.Mathlib.Omega.{arith}
+use lib.ListN.{length, length-drop}
+use Rattle.laws.specs.Bytes.{fieldSize}
+use Rattle.laws.specs.Parts.{part-from, one-of}
+use Rattle.judge.proofs.Tests.{right-field, wrong-field, sized}
+use Rattle.judge.specs.Tests.{fieldsRight}
+use borrow.Author.Needs.{needs}
+use Rattle.judge.proofs.fields_ok.Statement.{statement}
+use Rattle.judge.proofs.fields_ok.Tie as tie
+
+abbrev Inv-loop : tie.InvT-loop
+Inv-loop f r n w p₀ left₀ lo₀ p left lo = (left * fieldSize r + 3 ≤ length p) × (fieldsRight r lo left p ≡ fieldsRight r 0 n f)
+
+abbrev μ-loop : tie.MeasureT-loop
+μ-loop f r n w p₀ left₀ lo₀ p left lo = left
+
+-- in a turn there is a field
+one-left : (c : tie.In-loop Inv-loop μ-loop) → 16 + 4 * c .before .before .before .args .r ≤ length (c .before .loop .p .now)
+one-left c = omega (arith, one-of (c .before .loop .left) (fieldSize (c .before .before .before .args .r)) (c .loop-test .taken))
+
+field-ok-requires : tie.Need-field-ok-requires Inv-loop μ-loop
+field-ok-requires c κs = (omega arith, omega (arith, one-left c))
+
+sub-p : tie.Need-sub-p Inv-loop μ-loop
+sub-p c = one-left (c .before .before .before)
+
+part-p-start : tie.Need-part-p-start Inv-loop μ-loop
+part-p-start c = one-left (c .before .before .before)
+
+loop-again : tie.Need-loop-again Inv-loop μ-loop
+loop-again c =
+    let i = c .before .before .before .before in
+    let k = i .before .loop in
+    let r = i .before .before .before .args .r in
+    let l : (k .left - 1) * fieldSize r + 3 ≤ length (k .p .now) - (16 + 4 * r) = omega (arith, one-of (k .left) (fieldSize r) (i .loop-test .taken)) in
+    (rw (part-from, length-drop) l, rw (part-from, c .before .number4 .ensures, sized) (right-field r (k .left) (k .lo) (k .p .now) _ (i .loop-test .taken) (c .before .before .before .field-ok .ensures) (c .before .before .if1 .taken) ∙ k .inv .1))
+
+returns : tie.Need-returns Inv-loop μ-loop
+returns c =
+    let i = c .before .before in
+    let k = i .before .loop in
+    wrong-field (i .before .before .before .args .r) (k .left) (k .lo) (k .p .now) _ (i .loop-test .taken) (c .before .field-ok .ensures) (c .if1 .left) ∙ k .inv .1
+
+returns-2 : tie.Need-returns-2 Inv-loop μ-loop
+returns-2 c =
+    let k = c .before .before .loop in
+    let z : k .left ≡ 0 = omega arith in
+    c .head-is .ensures ∙ ap (λ (n : ℕ). fieldsRight (c .before .before .before .before .args .r) (k .lo) n (k .p .now)) (sym z) ∙ k .inv .1
+
+pub fields-ok-spec : {M : Type 1} → statement M
+fields-ok-spec =
+    tie.close (tie.spec Inv-loop μ-loop (λ c. search needs) (λ c. search needs) (λ c. search needs) field-ok-requires (λ c κs. search needs) (λ c. search needs) (λ c. search needs) sub-p part-p-start (λ c. search needs) (λ c. search needs) (λ c. search needs) loop-again returns (λ c κs. search needs) returns-2)

@@ -1,0 +1,191 @@
+-- Bytes: a number and its bytes, a member and the contents of its field, an image and its table, each both ways. Assumes nothing.
+use mathlib.Core.Path.{_≡_, refl, sym, ap, ap₂, _∙_}
+use mathlib.Core.Logic.{⊎-elim}
+use mathlib.Core.Bool.{true, false, false≢true}
+use mathlib.Core.List.{List, [], _∷_, _++_, append-nil, append-assoc}
+use Prim.Native.Nat.{ℕ, zero, suc, _+_, _*_, _/_, _%_, _^_, _≤_, _<_}
+use native.Mathlib.Nat.{pow-suc, pow-succ', mul-assoc}
+use native.Mathlib.Omega.{arith}
+use lib.Dec.{eqb}
+use lib.ListN.{length, getD, take, drop, length-append, length-drop}
+use lib.Seq.{length-take-le, take-add, drop-at, drop-drop, getD-drop}
+use borrow.Author.Tests.{eqb-true, eq-eqb}
+use Rattle.model.specs.Lists.{same}
+use Rattle.model.specs.Identifier.{space}
+use Rattle.model.specs.Table.{Member, Table}
+use Rattle.model.specs.Image.{bytesOf, numberFrom, numberAt, words4, field, memberField, memberFields, imageOf, fieldHead, memberLength, numbersAt, fieldMember, fieldMembers, tableIn}
+use Rattle.laws.specs.Lists.{In, here, there, in-cons, in-nil, and-true, true-and}
+use Rattle.laws.specs.Words.{Lengths}
+use Rattle.laws.specs.Tables.{FormedMember, Formed}
+
+-- Equal lists
+
+pub same-eq : (l m : List ℕ) → same l m ≡ true → l ≡ m
+same-eq [] [] h = refl
+same-eq [] (y ∷ m) h = absurd (false≢true h)
+same-eq (x ∷ l) [] h = absurd (false≢true h)
+same-eq (x ∷ l) (y ∷ m) h = let a = and-true (eqb x y) _ h in ap₂ (λ (z : ℕ) (k : List ℕ). z ∷ k) (eqb-true x y (a .0)) (same-eq l m (a .1))
+
+pub same-refl : (l : List ℕ) → same l l ≡ true
+same-refl [] = refl
+same-refl (x ∷ l) = true-and (eq-eqb x x refl) (same-refl l)
+
+-- A number and its bytes
+
+pub bytes-length : (k n : ℕ) → length (bytesOf k n) ≡ k
+bytes-length zero n = refl
+bytes-length (suc k) n = length-append (bytesOf k (n / 256)) _ ∙ omega (arith, bytes-length k (n / 256))
+
+number-append : (a : ℕ) (l m : List ℕ) → numberFrom a (l ++ m) ≡ numberFrom (numberFrom a l) m
+number-append a [] m = refl
+number-append a (b ∷ l) m = number-append (a * 256 + b) l m
+
+-- the bytes of a number say it, where it is small enough
+pub bytes-say : (k n : ℕ) → n < 256 ^ k → numberFrom 0 (bytesOf k n) ≡ n
+bytes-say zero n h = omega arith
+bytes-say (suc k) n h =
+    let p = pow-suc 256 k in
+    number-append 0 (bytesOf k (n / 256)) (n % 256 ∷ []) ∙ omega (arith, bytes-say k (n / 256) (omega arith))
+
+-- each is a byte
+abbrev pub Bytes : List ℕ → Type 0
+Bytes bs = (i : ℕ) → getD bs i 0 < 256
+
+pub bytes-drop : (n : ℕ) (bs : List ℕ) → Bytes bs → Bytes (drop n bs)
+bytes-drop n bs h i = rw getD-drop (h (n + i))
+
+pub bytes-take : (n : ℕ) (bs : List ℕ) → Bytes bs → Bytes (take n bs)
+bytes-take zero bs h i = omega arith
+bytes-take (suc n) [] h i = omega arith
+bytes-take (suc n) (b ∷ bs) h zero = h 0
+bytes-take (suc n) (b ∷ bs) h (suc i) = bytes-take n bs (λ j. h (suc j)) i
+
+said-after : (j a n : ℕ) (bs : List ℕ) → Bytes bs → j + length bs ≡ n → bytesOf n (numberFrom a bs) ≡ bytesOf j a ++ bs
+said-after j a n [] h e = let q : n ≡ j = omega arith in rw (q, append-nil)
+said-after j a n (b ∷ bs) h e =
+    let high : (a * 256 + b) / 256 ≡ a = omega (arith, h 0) in
+    let low : (a * 256 + b) % 256 ≡ b = omega (arith, h 0) in
+    said-after (suc j) (a * 256 + b) n bs (λ i. h (suc i)) (omega arith) ∙ rw (high, low) (append-assoc (bytesOf j a) (b ∷ []) bs)
+
+-- bytes are those of the number that they say
+pub said-bytes : (k : ℕ) (bs : List ℕ) → Bytes bs → length bs ≡ k → bytesOf k (numberFrom 0 bs) ≡ bs
+said-bytes k bs h e = said-after 0 0 k bs h (omega arith)
+
+-- and k of them at a position
+pub said-at : (k at : ℕ) (bs : List ℕ) → Bytes bs → at + k ≤ length bs → bytesOf k (numberAt bs at k) ≡ take k (drop at bs)
+said-at k at bs h e = said-bytes k (take k (drop at bs)) (bytes-take k (drop at bs) (bytes-drop at bs h)) (length-take-le k (drop at bs) (rw length-drop (omega arith)))
+
+below-from : (a w : ℕ) (bs : List ℕ) → Bytes bs → a < w → numberFrom a bs < w * 256 ^ length bs
+below-from a w [] h l = omega arith
+below-from a w (b ∷ bs) h l =
+    rw (pow-succ' 256 (length bs), ← mul-assoc w 256 (256 ^ length bs)) (below-from (a * 256 + b) (w * 256) bs (λ i. h (suc i)) (omega (arith, h 0)))
+
+-- the number that k bytes say is small
+pub number-below : (k at : ℕ) (bs : List ℕ) → Bytes bs → at + k ≤ length bs → numberAt bs at k < 256 ^ k
+number-below k at bs h e =
+    let part = take k (drop at bs) in
+    let n : length part ≡ k = length-take-le k (drop at bs) (rw length-drop (omega arith)) in
+    let b = below-from 0 1 part (bytes-take k (drop at bs) (bytes-drop at bs h)) (omega arith) in
+    omega (arith, rw n at b)
+
+-- Numbers of four bytes each
+
+pub words-length : (l : List ℕ) → length (words4 l) ≡ 4 * length l
+words-length [] = omega arith
+words-length (x ∷ l) = omega (arith, words-length l)
+
+pub numbers-length : (n : ℕ) (bs : List ℕ) → length (numbersAt n bs) ≡ n
+numbers-length zero bs = refl
+numbers-length (suc n) bs = ap suc (numbers-length n (drop 4 bs))
+
+pub numbers-read : (l rest : List ℕ) → ((e : ℕ) → In e l → e < space) → numbersAt (length l) (words4 l ++ rest) ≡ l
+numbers-read [] rest h = refl
+numbers-read (x ∷ l) rest h = ap₂ (λ (z : ℕ) (k : List ℕ). z ∷ k) (bytes-say 4 x (h x (here refl))) (numbers-read l rest (λ e i. h e (there i)))
+
+pub numbers-written : (n : ℕ) (bs : List ℕ) → Bytes bs → 4 * n ≤ length bs → words4 (numbersAt n bs) ≡ take (4 * n) bs
+numbers-written zero bs h e = refl
+numbers-written (suc n) bs h e =
+    let q : 4 * suc n ≡ 4 + 4 * n = omega arith in
+    ap₂ (λ (a b : List ℕ). a ++ b) (said-at 4 0 bs h (omega arith)) (numbers-written n (drop 4 bs) (bytes-drop 4 bs h) (rw length-drop (omega arith))) ∙ rw q (sym (take-add 4 (4 * n) bs))
+
+-- A member and its field
+
+-- what stands in a member's field
+abbrev pub contents : Member → List ℕ
+contents m = words4 (m .id ∷ m .predecessor ∷ []) ++ (bytesOf 1 (m .pending) ++ words4 (m .candidate ∷ m .successors))
+
+-- the bytes of a member's field
+abbrev pub fieldSize : ℕ → ℕ
+fieldSize r = fieldHead + memberLength r
+
+pub contents-length : (r : ℕ) (m : Member) → length (m .successors) ≡ r → length (contents m) ≡ memberLength r
+contents-length r m e = omega (arith, words-length (m .successors))
+
+pub field-length : (r : ℕ) (m : Member) → length (m .successors) ≡ r → length (memberField m) ≡ fieldSize r
+field-length r m e = omega (arith, words-length (m .successors))
+
+pub contents-read : (r : ℕ) (m : Member) (rest : List ℕ) → FormedMember space r m → fieldMember r (contents m ++ rest) ≡ m
+contents-read r m rest f = λ i. record {
+  id = bytes-say 4 (m .id) (f .id-small) i;
+  predecessor = bytes-say 4 (m .predecessor) (f .predecessor-small) i;
+  pending = bytes-say 1 (m .pending) (omega (arith, f .pending-bit)) i;
+  candidate = bytes-say 4 (m .candidate) (f .candidate-small) i;
+  successors = list i;
+}
+  where
+    list : numbersAt r (words4 (m .successors) ++ rest) ≡ m .successors
+    list = ap (λ (k : ℕ). numbersAt k (words4 (m .successors) ++ rest)) (sym (f .list-length)) ∙ numbers-read (m .successors) rest (f .entries-small)
+
+-- n elements from a place on, and the k behind them
+pub cut : (at n k : ℕ) (l a b : List ℕ) → a ≡ take n (drop at l) → b ≡ take k (drop (at + n) l) → a ++ b ≡ take (n + k) (drop at l)
+cut at n k l a b p q = rw (p, q, ← drop-drop n at l) (sym (take-add n k (drop at l)))
+
+pub contents-written : (r : ℕ) (bs : List ℕ) → Bytes bs → memberLength r ≤ length bs → contents (fieldMember r bs) ≡ take (memberLength r) bs
+contents-written r bs h l =
+    let list = numbers-written r (drop 13 bs) (bytes-drop 13 bs h) (rw length-drop (omega arith)) in
+    let c9 = cut 9 4 (4 * r) bs (bytesOf 4 (numberAt bs 9 4)) _ (said-at 4 9 bs h (omega arith)) list in
+    let c8 = cut 8 1 (4 + 4 * r) bs (bytesOf 1 (numberAt bs 8 1)) _ (said-at 1 8 bs h (omega arith)) c9 in
+    let c4 = cut 4 4 (1 + (4 + 4 * r)) bs (bytesOf 4 (numberAt bs 4 4)) _ (said-at 4 4 bs h (omega arith)) c8 in
+    let c0 = cut 0 4 (4 + (1 + (4 + 4 * r))) bs (bytesOf 4 (numberAt bs 0 4)) _ (said-at 4 0 bs h (omega arith)) c4 in
+    let q : 4 + (4 + (1 + (4 + 4 * r))) ≡ memberLength r = omega arith in
+    c0 ∙ ap (λ (n : ℕ). take n bs) q
+
+-- Members and their fields
+
+pub in-length : (r n : ℕ) (bs : List ℕ) → length (fieldMembers r n bs) ≡ n
+in-length r zero bs = refl
+in-length r (suc n) bs = ap suc (in-length r n (drop (fieldSize r) bs))
+
+pub in-lists : (r n : ℕ) (bs : List ℕ) → Lengths r (fieldMembers r n bs)
+in-lists r zero bs m i = absurd (in-nil i)
+in-lists r (suc n) bs m i = ⊎-elim (λ e. ap (λ (k : Member). length (k .successors)) e ∙ numbers-length r (drop 13 (drop fieldHead bs))) (λ j. in-lists r n (drop (fieldSize r) bs) m j) (in-cons i)
+
+pub fields-length : (r : ℕ) (ms : List Member) → Lengths r ms → length (memberFields ms) ≡ length ms * fieldSize r
+fields-length r [] h = omega arith
+fields-length r (m ∷ ms) h = rw (length-append (memberField m) (memberFields ms)) (omega (arith, field-length r m (h m (here refl)), fields-length r ms (λ k i. h k (there i))))
+
+pub fields-read : (r : ℕ) (ms : List Member) (rest : List ℕ) → ((m : Member) → In m ms → FormedMember space r m) → fieldMembers r (length ms) (memberFields ms ++ rest) ≡ ms
+fields-read r [] rest h = refl
+fields-read r (m ∷ ms) rest h =
+    let f = h m (here refl) in
+    let later = memberFields ms ++ rest in
+    let apart : (memberField m ++ memberFields ms) ++ rest ≡ memberField m ++ later = append-assoc (memberField m) (memberFields ms) rest in
+    let others : drop (fieldSize r) (memberField m ++ later) ≡ later = drop-at (memberField m) later (fieldSize r) (field-length r m (f .list-length)) in
+    ap (fieldMembers r (suc (length ms))) apart ∙ ap₂ (λ (a : Member) (k : List Member). a ∷ k) (contents-read r m later f) (ap (fieldMembers r (length ms)) others ∙ fields-read r ms rest (λ k i. h k (there i)))
+
+-- A table and its image
+
+pub image-length : (T : Table) → Lengths (T .r) (T .members) → length (imageOf T) ≡ 13 + length (T .members) * fieldSize (T .r)
+image-length T h = omega (arith, length-append (memberFields (T .members)) (field 3 []), fields-length (T .r) (T .members) h)
+
+pub image-read : (T : Table) → Formed space T → tableIn (imageOf T) ≡ T
+image-read T f = λ i. record { r = sameR i; steps = bytes-say 4 (T .steps) (f .steps-small) i; members = sameMembers i }
+  where
+    sameR : numberFrom 0 (bytesOf 1 (T .r)) ≡ T .r
+    sameR = bytes-say 1 (T .r) (omega (arith, f .r-high))
+
+    sameCount : numberFrom 0 (bytesOf 2 (length (T .members))) ≡ length (T .members)
+    sameCount = bytes-say 2 (length (T .members)) (omega (arith, f .count-high))
+
+    sameMembers : tableIn (imageOf T) .members ≡ T .members
+    sameMembers = ap₂ (λ (r n : ℕ). fieldMembers r n (memberFields (T .members) ++ field 3 [])) sameR sameCount ∙ fields-read (T .r) (T .members) (field 3 []) (f .each)

@@ -1,0 +1,4 @@
+-- What the proofs of this crate share.
+pub mod Loan
+pub mod Others
+pub mod Pulls
