@@ -1,8 +1,11 @@
 // The library for C: thin exports over the proved calls. include/ring.h declares them.
 ghost use mathlib.Core.Path.{_≡_};
-ghost use Rattle.model.specs.Calls.{joinAnswer, joinWords, stabilizeAnswer, stabilizeWords, rectifyAnswer, rectifyWords, failAnswer, failWords, leaveAnswer, leaveWords, lookupAnswer, auditAnswer, newAnswer, newWords, alikeAnswer};
+ghost use Rattle.model.specs.Calls.{joinAnswer, joinWords, stabilizeAnswer, stabilizeWords, rectifyAnswer, rectifyWords, failAnswer, failWords, leaveAnswer, leaveWords, lookupAnswer, auditAnswer, newAnswer, newWords, alikeAnswer, writeAnswer, writeBytes, readAnswer, readWords, findingsAnswer, findingsAfter};
+ghost use Rattle.model.specs.Image.{fieldAt};
+ghost use Rattle.findings.specs.Filled.{views};
 ghost use Rattle.reply.specs.Answers.{answerOf};
 ghost use Rattle.capi.specs.Packed.{packed, takeOverAnswer};
+use finding::Finding;
 use reply::Reply;
 
 // Number 0 or the refusal; the values as document 01 lists them, unused ones 0; 8 has its member in values[0].
@@ -173,4 +176,36 @@ pub extern "C" fn ring_take_over<'a>(
         number: 0,
         values: [0, low, high, 0],
     }
+}
+
+// Writes the image of a table.
+#[no_mangle]
+pub extern "C" fn ring_image_write(table: &[u32], image: &mut [u8]) -> Answer
+    ensures { λ a. ⌜ (a ≡ packed (writeAnswer (now (table .entry)) (now (image .entry)))) × (now (image .exit) ≡ writeBytes (now (table .entry)) (now (image .entry))) ⌝ }
+{
+    numbers(image::write(table, image))
+}
+
+// Reads a whole image into a slice.
+#[no_mangle]
+pub extern "C" fn ring_image_read(table: &mut [u32], image: &[u8]) -> Answer
+    ensures { λ a. ⌜ (a ≡ packed (readAnswer (now (table .entry)) (now (image .entry)))) × (now (table .exit) ≡ readWords (now (table .entry)) (now (image .entry))) ⌝ }
+{
+    numbers(image::read(table, image))
+}
+
+// The field at a position of an image.
+#[no_mangle]
+pub extern "C" fn ring_image_field(image: &[u8], position: usize) -> Answer
+    ensures { λ a. ⌜ a ≡ packed (fieldAt (now (image .entry)) position) ⌝ }
+{
+    numbers(image::field_at(image, position))
+}
+
+// The audit, with one finding a member.
+#[no_mangle]
+pub extern "C" fn ring_findings(table: &[u32], out: &mut [Finding]) -> Answer
+    ensures { λ a. ⌜ (a ≡ packed (findingsAnswer (now (table .entry)) (views (now (out .entry))))) × (views (now (out .exit)) ≡ findingsAfter (now (table .entry)) (views (now (out .entry)))) ⌝ }
+{
+    numbers(findings::findings(table, out))
 }

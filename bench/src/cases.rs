@@ -1,0 +1,316 @@
+//! What is measured: a call, the buffers that it is made on, and the answer that it must give.
+
+use crate::same::Answer;
+#[cfg(feature = "whole")]
+use crate::same::Finding;
+use crate::{library, same};
+use std::hint::black_box;
+
+const MEMBERS: usize = 256;
+const WORDS: usize = 3075;
+#[cfg(feature = "whole")]
+const BYTES: usize = 12301;
+
+#[derive(Clone, Copy, Debug, PartialEq, Eq)]
+pub enum Side {
+    Library,
+    Rust,
+}
+
+#[derive(Clone, Copy, PartialEq, Eq)]
+pub enum Call {
+    New,
+    JoinFail,
+    StabilizeDone,
+    StabilizeAgain,
+    RectifySame,
+    RectifyNew,
+    Leave6,
+    Leave7,
+    LeaveOk,
+    Lookup,
+    Audit,
+    Alike,
+    #[cfg(feature = "whole")]
+    Findings,
+    #[cfg(feature = "whole")]
+    ImageWrite,
+    #[cfg(feature = "whole")]
+    ImageRead,
+    /// No call, but the copying back that the case LeaveOk does behind each call.
+    Restore,
+}
+
+pub const CALLS: &[(&str, Call)] = &[
+    ("new", Call::New),
+    ("join-fail", Call::JoinFail),
+    ("stabilize-done", Call::StabilizeDone),
+    ("stabilize-again", Call::StabilizeAgain),
+    ("rectify-same", Call::RectifySame),
+    ("rectify-new", Call::RectifyNew),
+    ("leave-refused-6", Call::Leave6),
+    ("leave-refused-7", Call::Leave7),
+    ("leave-accepted", Call::LeaveOk),
+    ("lookup-255-moves", Call::Lookup),
+    ("audit", Call::Audit),
+    ("alike", Call::Alike),
+    #[cfg(feature = "whole")]
+    ("findings", Call::Findings),
+    #[cfg(feature = "whole")]
+    ("image-write", Call::ImageWrite),
+    #[cfg(feature = "whole")]
+    ("image-read", Call::ImageRead),
+];
+
+/// The buffers of one side, and the numbers of the call.
+#[derive(Clone, PartialEq, Eq)]
+pub struct Case {
+    pub table: Vec<u32>,
+    other: Vec<u32>,
+    ids: Vec<u32>,
+    #[cfg(feature = "whole")]
+    findings: Vec<Finding>,
+    #[cfg(feature = "whole")]
+    image: Vec<u8>,
+    r: u32,
+    x: u32,
+    y: u32,
+    pub expected: Answer,
+}
+
+fn answer(number: u32, values: [u32; 4]) -> Answer {
+    Answer { number, values }
+}
+
+/// Rising identifiers, spread over the whole space by a fixed generator.
+fn identifiers(count: usize) -> Vec<u32> {
+    let mut state = 1u32;
+    (0..count as u32)
+        .map(|i| {
+            state = state.wrapping_mul(1664525).wrapping_add(1013904223);
+            (i << 24) + 1000 + (state >> 10)
+        })
+        .collect()
+}
+
+impl Case {
+    pub fn new(call: Call, r: u32) -> Case {
+        let count = if call == Call::JoinFail {
+            MEMBERS - 1
+        } else {
+            MEMBERS
+        };
+        let ids = identifiers(count);
+        let mut table = vec![0; WORDS];
+        let made = same::new(&mut table, r, &ids);
+        assert_eq!(made, answer(0, [count as u32, 0, 0, 0]));
+        let width = r as usize + 4;
+        let at = |k: usize| 3 + k * width;
+        let n = count as u32;
+        let (mut x, mut y) = (ids[100], 0);
+        let expected = match call {
+            Call::New => answer(0, [n, 0, 0, 0]),
+            Call::JoinFail => {
+                (x, y) = (ids[127] + 1, ids[127]);
+                answer(0, [n, 0, 0, 0])
+            }
+            Call::StabilizeDone => answer(0, [2, ids[101], 0, 0]),
+            Call::StabilizeAgain => {
+                // A list of r dead entries: each step drops one and appends another.
+                for i in 0..r {
+                    table[at(100) + 4 + i as usize] = x + 1 + i;
+                }
+                answer(0, [0, 0, 0, 0])
+            }
+            Call::RectifySame => {
+                y = ids[99];
+                answer(0, [0, 0, 0, 0])
+            }
+            Call::RectifyNew => {
+                // A dead predecessor that notifies: it is written each time.
+                y = ids[99] + 1;
+                table[at(100) + 1] = y;
+                answer(0, [1, 0, 0, 0])
+            }
+            Call::Leave6 => {
+                // The list of the last member has one live entry, the member that would leave.
+                for i in 0..r {
+                    table[at(MEMBERS - 1) + 4 + i as usize] = x + i;
+                }
+                answer(6, [0; 4])
+            }
+            Call::Leave7 => {
+                // The lowest member's list skips all but the highest r, so r + 1 are principals.
+                let first = MEMBERS - r as usize;
+                for i in 0..r as usize {
+                    table[at(0) + 4 + i] = ids[first + i];
+                }
+                x = ids[MEMBERS - 1];
+                answer(7, [0; 4])
+            }
+            Call::LeaveOk => answer(0, [n - 1, 0, 0, 0]),
+            Call::Lookup => {
+                y = x;
+                answer(0, [x, ids[99], n - 1, 0])
+            }
+            Call::Audit => answer(0, [n, n, n, 2]),
+            Call::Alike => answer(0, [1, 0, 0, 0]),
+            #[cfg(feature = "whole")]
+            Call::Findings => answer(0, [n, n, n, 2]),
+            #[cfg(feature = "whole")]
+            Call::ImageWrite => answer(0, [13 + n * (16 + 4 * r), 0, 0, 0]),
+            #[cfg(feature = "whole")]
+            Call::ImageRead => answer(0, [n, 0, 0, 0]),
+            Call::Restore => answer(0, [0; 4]),
+        };
+        #[cfg(feature = "whole")]
+        let image = {
+            let mut image = vec![0; BYTES];
+            if call == Call::ImageRead {
+                let written = same::image_write(&table, &mut image);
+                image.truncate(written.values[0] as usize);
+            }
+            image
+        };
+        Case {
+            other: table.clone(),
+            table,
+            ids,
+            #[cfg(feature = "whole")]
+            findings: vec![Finding::default(); MEMBERS],
+            #[cfg(feature = "whole")]
+            image,
+            r,
+            x,
+            y,
+            expected,
+        }
+    }
+
+    pub fn run(&mut self, call: Call, side: Side, times: u64) -> Answer {
+        match side {
+            Side::Library => run_library(self, call, times),
+            Side::Rust => run_rust(self, call, times),
+        }
+    }
+}
+
+// The same loop over both modules, so that each call is a direct one.
+macro_rules! runner {
+    ($name:ident, $side:ident) => {
+        #[inline(never)]
+        fn $name(case: &mut Case, call: Call, times: u64) -> Answer {
+            let (x, y) = (case.x, case.y);
+            let (table, other) = (&mut case.table[..], &mut case.other[..]);
+            let mut last = Answer::default();
+            macro_rules! repeat {
+                ($body:expr) => {
+                    for _ in 0..times {
+                        last = black_box($body);
+                    }
+                };
+            }
+            match call {
+                Call::New => {
+                    repeat!($side::new(
+                        black_box(table),
+                        black_box(case.r),
+                        black_box(&case.ids)
+                    ))
+                }
+                Call::JoinFail => repeat!({
+                    black_box($side::join(black_box(table), black_box(x), black_box(y)));
+                    $side::fail(black_box(table), black_box(x))
+                }),
+                Call::StabilizeDone | Call::StabilizeAgain => {
+                    repeat!($side::stabilize(black_box(table), black_box(x)))
+                }
+                Call::RectifySame | Call::RectifyNew => {
+                    repeat!($side::rectify(black_box(table), black_box(x), black_box(y)))
+                }
+                Call::Leave6 | Call::Leave7 => {
+                    repeat!($side::leave(black_box(table), black_box(x)))
+                }
+                Call::LeaveOk => repeat!({
+                    let answer = $side::leave(black_box(table), black_box(x));
+                    table.copy_from_slice(black_box(other));
+                    answer
+                }),
+                Call::Lookup => {
+                    repeat!($side::lookup(black_box(table), black_box(x), black_box(y)))
+                }
+                Call::Audit => repeat!($side::audit(black_box(table))),
+                Call::Alike => repeat!($side::alike(black_box(table), black_box(other))),
+                #[cfg(feature = "whole")]
+                Call::Findings => {
+                    repeat!($side::findings(
+                        black_box(table),
+                        black_box(&mut case.findings)
+                    ))
+                }
+                #[cfg(feature = "whole")]
+                Call::ImageWrite => {
+                    repeat!($side::image_write(
+                        black_box(table),
+                        black_box(&mut case.image)
+                    ))
+                }
+                #[cfg(feature = "whole")]
+                Call::ImageRead => {
+                    repeat!($side::image_read(black_box(table), black_box(&case.image)))
+                }
+                Call::Restore => repeat!({
+                    table.copy_from_slice(black_box(other));
+                    Answer::default()
+                }),
+            }
+            last
+        }
+    };
+}
+
+runner!(run_library, library);
+runner!(run_rust, same);
+
+/// Both sides a few times, one call at a time: answers and buffers must be equal.
+pub fn agree(name: &str, call: Call, r: u32) {
+    let mut ours = Case::new(call, r);
+    let mut theirs = ours.clone();
+    for time in 0..5 {
+        let a = ours.run(call, Side::Library, 1);
+        let b = theirs.run(call, Side::Rust, 1);
+        assert_eq!(
+            a, ours.expected,
+            "{name}, r = {r}, time {time}: the library's answer"
+        );
+        assert_eq!(
+            b, ours.expected,
+            "{name}, r = {r}, time {time}: the Rust side's answer"
+        );
+        assert!(
+            ours == theirs,
+            "{name}, r = {r}, time {time}: the buffers differ"
+        );
+        steps(name, r, &ours, &theirs);
+    }
+}
+
+/// The calls that a case makes in one go, looked at one by one.
+fn steps(name: &str, r: u32, ours: &Case, theirs: &Case) {
+    let (mut a, mut b) = (ours.table.clone(), theirs.table.clone());
+    let differ = |what: &str| format!("{name}, r = {r}: {what} differs");
+    match name {
+        "join-fail" => {
+            let (p, q) = (
+                library::join(&mut a, ours.x, ours.y),
+                same::join(&mut b, ours.x, ours.y),
+            );
+            assert!(p.number == 0 && p == q && a == b, "{}", differ("join"));
+        }
+        "leave-accepted" => {
+            let (p, q) = (library::leave(&mut a, ours.x), same::leave(&mut b, ours.x));
+            assert!(p.number == 0 && p == q && a == b, "{}", differ("leave"));
+        }
+        _ => {}
+    }
+}

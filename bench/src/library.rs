@@ -1,0 +1,109 @@
+//! The library, linked from RING_ARCHIVE. include/ring.h declares the same functions for C.
+
+use crate::same::Answer;
+
+extern "C" {
+    fn ring_new(table: *mut u32, words: usize, r: u32, ids: *const u32, count: usize) -> Answer;
+    fn ring_join(table: *mut u32, words: usize, j: u32, p: u32) -> Answer;
+    fn ring_stabilize(table: *mut u32, words: usize, n: u32) -> Answer;
+    fn ring_rectify(table: *mut u32, words: usize, n: u32, q: u32) -> Answer;
+    fn ring_fail(table: *mut u32, words: usize, n: u32) -> Answer;
+    fn ring_leave(table: *mut u32, words: usize, n: u32) -> Answer;
+    fn ring_lookup(table: *const u32, words: usize, n: u32, k: u32) -> Answer;
+    fn ring_audit(table: *const u32, words: usize) -> Answer;
+    fn ring_alike(a: *const u32, a_words: usize, b: *const u32, b_words: usize) -> Answer;
+}
+
+// Each call takes any slice and reads and writes nothing outside it, so each wrapper is safe.
+
+#[inline(always)]
+pub fn new(words: &mut [u32], r: u32, ids: &[u32]) -> Answer {
+    unsafe { ring_new(words.as_mut_ptr(), words.len(), r, ids.as_ptr(), ids.len()) }
+}
+
+#[inline(always)]
+pub fn join(words: &mut [u32], j: u32, p: u32) -> Answer {
+    unsafe { ring_join(words.as_mut_ptr(), words.len(), j, p) }
+}
+
+#[inline(always)]
+pub fn stabilize(words: &mut [u32], n: u32) -> Answer {
+    unsafe { ring_stabilize(words.as_mut_ptr(), words.len(), n) }
+}
+
+#[inline(always)]
+pub fn rectify(words: &mut [u32], n: u32, q: u32) -> Answer {
+    unsafe { ring_rectify(words.as_mut_ptr(), words.len(), n, q) }
+}
+
+#[inline(always)]
+pub fn fail(words: &mut [u32], n: u32) -> Answer {
+    unsafe { ring_fail(words.as_mut_ptr(), words.len(), n) }
+}
+
+#[inline(always)]
+pub fn leave(words: &mut [u32], n: u32) -> Answer {
+    unsafe { ring_leave(words.as_mut_ptr(), words.len(), n) }
+}
+
+#[inline(always)]
+pub fn lookup(words: &[u32], n: u32, k: u32) -> Answer {
+    unsafe { ring_lookup(words.as_ptr(), words.len(), n, k) }
+}
+
+#[inline(always)]
+pub fn audit(words: &[u32]) -> Answer {
+    unsafe { ring_audit(words.as_ptr(), words.len()) }
+}
+
+#[inline(always)]
+pub fn alike(a: &[u32], b: &[u32]) -> Answer {
+    unsafe { ring_alike(a.as_ptr(), a.len(), b.as_ptr(), b.len()) }
+}
+
+#[cfg(feature = "whole")]
+pub use whole::{findings, image_read, image_write};
+
+#[cfg(feature = "whole")]
+mod whole {
+    use crate::same::{Answer, Finding};
+
+    extern "C" {
+        fn ring_findings(
+            table: *const u32,
+            words: usize,
+            findings: *mut Finding,
+            count: usize,
+        ) -> Answer;
+        fn ring_image_write(
+            table: *const u32,
+            words: usize,
+            image: *mut u8,
+            bytes: usize,
+        ) -> Answer;
+        fn ring_image_read(table: *mut u32, words: usize, image: *const u8, bytes: usize)
+            -> Answer;
+    }
+
+    #[inline(always)]
+    pub fn findings(words: &[u32], findings: &mut [Finding]) -> Answer {
+        unsafe {
+            ring_findings(
+                words.as_ptr(),
+                words.len(),
+                findings.as_mut_ptr(),
+                findings.len(),
+            )
+        }
+    }
+
+    #[inline(always)]
+    pub fn image_write(words: &[u32], image: &mut [u8]) -> Answer {
+        unsafe { ring_image_write(words.as_ptr(), words.len(), image.as_mut_ptr(), image.len()) }
+    }
+
+    #[inline(always)]
+    pub fn image_read(words: &mut [u32], image: &[u8]) -> Answer {
+        unsafe { ring_image_read(words.as_mut_ptr(), words.len(), image.as_ptr(), image.len()) }
+    }
+}

@@ -1,0 +1,150 @@
+//! The library and the same algorithms in Rust, measured side by side. See README.md.
+
+mod cases;
+mod library;
+mod same;
+
+use cases::{agree, Call, Case, Side, CALLS};
+use std::process::exit;
+use std::time::{Duration, Instant};
+
+const LISTS: [u32; 2] = [8, 2];
+
+/// How long one batch of calls lasts, and how many batches each side gets.
+struct Effort {
+    batch: Duration,
+    rounds: usize,
+}
+
+const USUAL: Effort = Effort {
+    batch: Duration::from_micros(500),
+    rounds: 151,
+};
+const QUICK: Effort = Effort {
+    batch: Duration::from_micros(200),
+    rounds: 15,
+};
+
+fn time(call: Call, r: u32, side: Side, times: u64) -> Duration {
+    let mut case = Case::new(call, r);
+    let start = Instant::now();
+    let last = case.run(call, side, times);
+    let took = start.elapsed();
+    assert_eq!(last, case.expected);
+    took
+}
+
+/// How many calls fill a batch: by the best of some tries, as the machine may be busy.
+fn batch(call: Call, r: u32, length: Duration) -> u64 {
+    let mut times = 1;
+    loop {
+        let took = (0..5).map(|_| time(call, r, Side::Rust, times)).min();
+        let took = took.unwrap_or_default().max(Duration::from_nanos(1));
+        if took * 2 >= length || times >= 1 << 20 {
+            let more = length.as_secs_f64() / took.as_secs_f64();
+            return ((times as f64 * more) as u64).clamp(1, 1 << 20);
+        }
+        times *= 2;
+    }
+}
+
+struct Times(Vec<f64>);
+
+impl Times {
+    fn best(&self) -> f64 {
+        self.0.iter().copied().fold(f64::INFINITY, f64::min)
+    }
+
+    fn median(&self) -> f64 {
+        let mut sorted = self.0.clone();
+        sorted.sort_by(f64::total_cmp);
+        sorted[sorted.len() / 2]
+    }
+}
+
+fn measure(call: Call, r: u32, effort: &Effort) -> (Times, Times) {
+    let times = batch(call, r, effort.batch);
+    let (mut ours, mut theirs) = (Vec::new(), Vec::new());
+    for round in 0..effort.rounds {
+        let order = if round % 2 == 0 {
+            [Side::Library, Side::Rust]
+        } else {
+            [Side::Rust, Side::Library]
+        };
+        for side in order {
+            let each = time(call, r, side, times).as_nanos() as f64 / times as f64;
+            match side {
+                Side::Library => ours.push(each),
+                Side::Rust => theirs.push(each),
+            }
+        }
+    }
+    (Times(ours), Times(theirs))
+}
+
+/// The table of the calls named, or of all; nothing if a name is unknown.
+fn report(effort: &Effort, names: &[String]) -> Option<()> {
+    let known = |name: &String| CALLS.iter().any(|(known, _)| known == name);
+    if !names.iter().all(known) {
+        return None;
+    }
+    println!(
+        "{:<18} {:>1} {:>12} {:>12} {:>7} {:>12} {:>12} {:>7}",
+        "call", "r", "library ns", "Rust ns", "ratio", "library med", "Rust med", "ratio"
+    );
+    for &(name, call) in CALLS {
+        if !names.is_empty() && !names.iter().any(|given| given == name) {
+            continue;
+        }
+        for r in LISTS {
+            agree(name, call, r);
+            let (ours, theirs) = measure(call, r, effort);
+            println!(
+                "{name:<18} {r:>1} {:>12.1} {:>12.1} {:>7.2} {:>12.1} {:>12.1} {:>7.2}",
+                ours.best(),
+                theirs.best(),
+                ours.best() / theirs.best(),
+                ours.median(),
+                theirs.median(),
+                ours.median() / theirs.median(),
+            );
+        }
+    }
+    Some(())
+}
+
+/// One call on one side only, so often: for a counter of instructions.
+fn count(words: &[String]) -> Option<()> {
+    let [name, r, side, times] = words else {
+        return None;
+    };
+    let restore = ("restore", Call::Restore);
+    let &(_, call) = CALLS.iter().chain([&restore]).find(|(n, _)| n == name)?;
+    let r = r.parse().ok().filter(|r| (1..=8).contains(r))?;
+    let side = match side.as_str() {
+        "library" => Side::Library,
+        "rust" => Side::Rust,
+        _ => return None,
+    };
+    let times: u64 = times.parse().ok().filter(|&t| t > 0)?;
+    let mut case = Case::new(call, r);
+    assert_eq!(case.run(call, side, times), case.expected);
+    Some(())
+}
+
+fn main() {
+    let words: Vec<String> = std::env::args().skip(1).collect();
+    let done = match words.first().map(String::as_str) {
+        Some("--quick") => report(&QUICK, &words[1..]),
+        Some("--count") => count(&words[1..]),
+        Some("--calls") if words.len() == 1 => {
+            CALLS.iter().for_each(|(name, _)| println!("{name}"));
+            Some(())
+        }
+        _ => report(&USUAL, &words),
+    };
+    if done.is_none() {
+        eprintln!("bench [--quick] [CALL...] | --calls | --count CALL R library|rust TIMES");
+        exit(2);
+    }
+}

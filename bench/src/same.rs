@@ -1,0 +1,287 @@
+//! The same algorithms as the library's, in plain safe Rust over the same words.
+//!
+//! A table is a header of three words (r, member count, step count) and one record of r + 4 words
+//! a member: identifier, predecessor, pending, candidate and r successors, by rising identifier.
+
+mod calls;
+
+pub use calls::*;
+
+use std::slice::ChunksExact;
+
+const HEADER: usize = 3;
+const MEMBERS_MOST: usize = 256;
+const WORDS_MOST: usize = HEADER + MEMBERS_MOST * 12;
+
+/// What a call answers: number 0 and the reply's values, or the number that declines it.
+#[repr(C)]
+#[derive(Clone, Copy, Debug, Default, PartialEq, Eq)]
+pub struct Answer {
+    pub number: u32,
+    pub values: [u32; 4],
+}
+
+/// What the audit finds of one member.
+#[cfg_attr(not(feature = "whole"), allow(dead_code))]
+#[repr(C)]
+#[derive(Clone, Copy, Debug, Default, PartialEq, Eq)]
+pub struct Finding {
+    pub id: u32,
+    pub principal: u32,
+    pub moves: u32,
+}
+
+fn reply(values: [u32; 4]) -> Answer {
+    Answer { number: 0, values }
+}
+
+fn declined(number: u32) -> Answer {
+    Answer {
+        number,
+        values: [0; 4],
+    }
+}
+
+#[inline]
+fn between(a: u32, n: u32, b: u32) -> bool {
+    if a < b {
+        a < n && n < b
+    } else {
+        a < n || n < b
+    }
+}
+
+/// One member's record by value; of the 8 entries the first r count.
+#[derive(Clone, Copy)]
+struct Member {
+    id: u32,
+    predecessor: u32,
+    pending: u32,
+    candidate: u32,
+    successors: [u32; 8],
+}
+
+impl Member {
+    fn read(record: &[u32]) -> Self {
+        let (front, list) = record.split_at(4);
+        let mut successors = [0; 8];
+        successors[..list.len()].copy_from_slice(list);
+        Member {
+            id: front[0],
+            predecessor: front[1],
+            pending: front[2],
+            candidate: front[3],
+            successors,
+        }
+    }
+
+    fn write(&self, record: &mut [u32]) {
+        let (front, list) = record.split_at_mut(4);
+        front.copy_from_slice(&[self.id, self.predecessor, self.pending, self.candidate]);
+        list.copy_from_slice(&self.successors[..list.len()]);
+    }
+
+    fn drop_head(mut self, r: usize) -> Self {
+        let next = self.successors[r - 1].wrapping_add(1);
+        self.successors.copy_within(1..r, 0);
+        self.successors[r - 1] = next;
+        self
+    }
+
+    fn adopt(mut self, x: u32, list: &[u32; 8]) -> Self {
+        self.successors[0] = x;
+        self.successors[1..].copy_from_slice(&list[..7]);
+        self
+    }
+
+    fn await_candidate(mut self, c: u32) -> Self {
+        self.pending = 1;
+        self.candidate = c;
+        self
+    }
+
+    fn clear_pending(mut self) -> Self {
+        self.pending = 0;
+        self.candidate = 0;
+        self
+    }
+}
+
+/// A well-formed table, taken apart.
+#[derive(Clone, Copy)]
+struct Table<'a> {
+    r: usize,
+    members: usize,
+    width: usize,
+    records: &'a [u32],
+}
+
+impl<'a> Table<'a> {
+    /// The table in the words, if it is well-formed: one pass.
+    fn open(words: &'a [u32]) -> Option<Self> {
+        let [r, members, _, rest @ ..] = words else {
+            return None;
+        };
+        let (r, members) = (*r as usize, *members as usize);
+        if !(1..=8).contains(&r) || members > MEMBERS_MOST {
+            return None;
+        }
+        let width = r + 4;
+        let records = rest.get(..members * width)?;
+        let mut lowest = 0;
+        for record in records.chunks_exact(width) {
+            let id = u64::from(record[0]);
+            if id < lowest || !matches!((record[2], record[3]), (0, 0) | (1, _)) {
+                return None;
+            }
+            lowest = id + 1;
+        }
+        Some(Table {
+            r,
+            members,
+            width,
+            records,
+        })
+    }
+
+    #[inline]
+    fn records(&self) -> ChunksExact<'a, u32> {
+        self.records.chunks_exact(self.width)
+    }
+
+    #[inline]
+    fn record(&self, k: usize) -> &'a [u32] {
+        &self.records[k * self.width..][..self.width]
+    }
+
+    #[inline]
+    fn id(&self, k: usize) -> u32 {
+        self.records[k * self.width]
+    }
+
+    /// Where the record at a place starts in the words.
+    fn offset(&self, k: usize) -> usize {
+        HEADER + k * self.width
+    }
+
+    /// How many members stand below x, by halves.
+    #[inline]
+    fn rank(&self, x: u32) -> usize {
+        let (mut low, mut high) = (0, self.members);
+        while low < high {
+            let middle = low + (high - low) / 2;
+            if self.id(middle) < x {
+                low = middle + 1;
+            } else {
+                high = middle;
+            }
+        }
+        low
+    }
+
+    /// The place of x, or where it would stand.
+    #[inline]
+    fn search(&self, x: u32) -> Result<usize, usize> {
+        let k = self.rank(x);
+        if k < self.members && self.id(k) == x {
+            Ok(k)
+        } else {
+            Err(k)
+        }
+    }
+
+    #[inline]
+    fn place(&self, x: u32) -> Option<usize> {
+        self.search(x).ok()
+    }
+
+    /// The place of the first live entry of the record's list.
+    #[inline]
+    fn best_place(&self, record: &[u32]) -> Option<usize> {
+        record[4..].iter().find_map(|&x| self.place(x))
+    }
+
+    /// The places of all best successors; the member count where there is none.
+    fn best_places(&self) -> [usize; MEMBERS_MOST] {
+        let mut places = [0; MEMBERS_MOST];
+        for (place, record) in places.iter_mut().zip(self.records()) {
+            *place = self.best_place(record).unwrap_or(self.members);
+        }
+        places
+    }
+
+    #[inline]
+    fn is_principal(&self, x: u32) -> bool {
+        !self.records().any(|record| skips(record, x))
+    }
+
+    fn count_principals(&self) -> usize {
+        self.records()
+            .filter(|record| self.is_principal(record[0]))
+            .count()
+    }
+
+    /// 0 not sound, 1 sound, 2 sound and ideal.
+    fn verdict(&self, best: &[usize], principals: usize) -> u32 {
+        let sound = best.iter().all(|&b| b < self.members)
+            && principals > self.r
+            && self.records().all(candidate_inside);
+        if !sound {
+            0
+        } else if self.is_ideal() {
+            2
+        } else {
+            1
+        }
+    }
+
+    fn is_ideal(&self) -> bool {
+        let Some(last) = self.members.checked_sub(1) else {
+            return true;
+        };
+        let (lowest, mut below) = (self.id(0), self.id(last));
+        let mut records = self.records().peekable();
+        while let Some(record) = records.next() {
+            let above = records.peek().map_or(lowest, |next| next[0]);
+            if record[4] != above || record[1] != below {
+                return false;
+            }
+            below = record[0];
+        }
+        true
+    }
+}
+
+/// Do some two neighbours of the record's extended list skip x?
+#[inline]
+fn skips(record: &[u32], x: u32) -> bool {
+    let mut a = record[0];
+    record[4..]
+        .iter()
+        .any(|&b| between(std::mem::replace(&mut a, b), x, b))
+}
+
+fn candidate_inside(record: &[u32]) -> bool {
+    record[2] == 0 || between(record[0], record[3], record[4])
+}
+
+/// Does the walk over the places come back to k?
+#[inline]
+fn on_ring(best: &[usize], k: usize) -> bool {
+    let mut at = k;
+    for _ in 0..best.len() {
+        match best.get(at) {
+            Some(&next) if next == k => return true,
+            Some(&next) => at = next,
+            None => return false,
+        }
+    }
+    false
+}
+
+/// The record at a place goes; those above move down, and the words freed become 0.
+fn remove(words: &mut [u32], at: usize, end: usize, width: usize) {
+    words.copy_within(at + width..end, at);
+    words[end - width..end].fill(0);
+    words[1] -= 1;
+}

@@ -1,0 +1,372 @@
+//! The calls over the taken-apart table, and the image.
+
+use super::*;
+
+#[inline(never)]
+pub fn new(words: &mut [u32], r: u32, ids: &[u32]) -> Answer {
+    let (width, list, members) = (r as usize + 4, r as usize, ids.len());
+    if !(1..=8).contains(&r)
+        || members <= list
+        || members > MEMBERS_MOST
+        || !ids.windows(2).all(|pair| pair[0] < pair[1])
+    {
+        return declined(11);
+    }
+    let Some(words) = words.get_mut(..HEADER + members * width) else {
+        return declined(10);
+    };
+    let (header, records) = words.split_at_mut(HEADER);
+    header.copy_from_slice(&[r, members as u32, 0]);
+    // The highest r have lists that go round the end.
+    let (straight, round) = records.split_at_mut((members - list) * width);
+    let mut below = ids[members - 1];
+    for (record, ids) in straight.chunks_exact_mut(width).zip(ids.windows(list + 1)) {
+        record[..4].copy_from_slice(&[ids[0], below, 0, 0]);
+        record[4..].copy_from_slice(&ids[1..]);
+        below = ids[0];
+    }
+    for (k, record) in (members - list..).zip(round.chunks_exact_mut(width)) {
+        record[..4].copy_from_slice(&[ids[k], ids[k - 1], 0, 0]);
+        let (front, back) = record[4..].split_at_mut(members - 1 - k);
+        front.copy_from_slice(&ids[k + 1..]);
+        back.copy_from_slice(&ids[..back.len()]);
+    }
+    reply([members as u32, 0, 0, 0])
+}
+
+#[inline(never)]
+pub fn join(words: &mut [u32], j: u32, p: u32) -> Answer {
+    let Some(t) = Table::open(words) else {
+        return declined(1);
+    };
+    let Err(k) = t.search(j) else {
+        return declined(2);
+    };
+    let Some(by) = t.place(p) else {
+        return declined(3);
+    };
+    let joiner = Member {
+        id: j,
+        predecessor: p,
+        pending: 0,
+        candidate: 0,
+        ..Member::read(t.record(by))
+    };
+    if !between(p, j, joiner.successors[0]) {
+        return declined(4);
+    }
+    let (at, end, width) = (t.offset(k), t.offset(t.members), t.width);
+    if t.members == MEMBERS_MOST || words.len() - end < width {
+        return declined(5);
+    }
+    words.copy_within(at..end, at + width);
+    joiner.write(&mut words[at..at + width]);
+    words[1] += 1;
+    reply([words[1], 0, 0, 0])
+}
+
+#[inline(never)]
+pub fn stabilize(words: &mut [u32], n: u32) -> Answer {
+    let Some(t) = Table::open(words) else {
+        return declined(1);
+    };
+    let Some(k) = t.place(n) else {
+        return declined(3);
+    };
+    let member = Member::read(t.record(k));
+    let head = member.successors[0];
+    let (member, answer) = if member.pending == 1 {
+        let c = member.candidate;
+        match t.place(c) {
+            Some(s) => {
+                let list = Member::read(t.record(s)).successors;
+                (member.adopt(c, &list).clear_pending(), [2, c, 0, 0])
+            }
+            None => (member.clear_pending(), [2, head, 0, 0]),
+        }
+    } else if let Some(s) = t.place(head) {
+        let successor = Member::read(t.record(s));
+        let c = successor.predecessor;
+        let adopted = member.adopt(head, &successor.successors);
+        if between(n, c, head) {
+            (adopted.await_candidate(c), [1, c, 0, 0])
+        } else {
+            (adopted, [2, head, 0, 0])
+        }
+    } else {
+        (member.drop_head(t.r), [0, 0, 0, 0])
+    };
+    let (at, width) = (t.offset(k), t.width);
+    member.write(&mut words[at..at + width]);
+    words[2] = words[2].saturating_add(1);
+    reply(answer)
+}
+
+#[inline(never)]
+pub fn rectify(words: &mut [u32], n: u32, q: u32) -> Answer {
+    let Some(t) = Table::open(words) else {
+        return declined(1);
+    };
+    let Some(k) = t.place(n) else {
+        return declined(3);
+    };
+    let predecessor = t.record(k)[1];
+    if between(predecessor, q, n) || t.place(predecessor).is_none() {
+        let at = t.offset(k);
+        words[at + 1] = q;
+        reply([1, 0, 0, 0])
+    } else {
+        reply([0, 0, 0, 0])
+    }
+}
+
+#[inline(never)]
+pub fn fail(words: &mut [u32], n: u32) -> Answer {
+    let Some(t) = Table::open(words) else {
+        return declined(1);
+    };
+    let Some(k) = t.place(n) else {
+        return declined(3);
+    };
+    let (at, end, width) = (t.offset(k), t.offset(t.members), t.width);
+    remove(words, at, end, width);
+    reply([words[1], 0, 0, 0])
+}
+
+#[inline(never)]
+pub fn leave(words: &mut [u32], n: u32) -> Answer {
+    let Some(t) = Table::open(words) else {
+        return declined(1);
+    };
+    let Some(k) = t.place(n) else {
+        return declined(3);
+    };
+    let (r, at, end, width) = (t.r, t.offset(k), t.offset(t.members), t.width);
+    let mut copy = [0; WORDS_MOST];
+    copy[..end].copy_from_slice(&words[..end]);
+    remove(&mut copy, at, end, width);
+    let members = t.members - 1;
+    let left = Table {
+        r,
+        members,
+        width,
+        records: &copy[HEADER..end - width],
+    };
+    if left.best_places()[..members].contains(&members) {
+        return declined(6);
+    }
+    if left.count_principals() <= r {
+        return declined(7);
+    }
+    remove(words, at, end, width);
+    reply([words[1], 0, 0, 0])
+}
+
+#[inline(never)]
+pub fn lookup(words: &[u32], n: u32, k: u32) -> Answer {
+    let Some(t) = Table::open(words) else {
+        return declined(1);
+    };
+    let Some(start) = t.place(n) else {
+        return declined(3);
+    };
+    let mut record = t.record(start);
+    for moves in 0..t.members as u32 {
+        let q = record[0];
+        let Some(next) = t.best_place(record) else {
+            return Answer {
+                number: 8,
+                values: [q, 0, 0, 0],
+            };
+        };
+        record = t.record(next);
+        let b = record[0];
+        if k == b || between(q, k, b) {
+            return reply([b, q, moves, 0]);
+        }
+    }
+    Answer {
+        number: 8,
+        values: [record[0], 0, 0, 0],
+    }
+}
+
+#[inline(never)]
+pub fn audit(words: &[u32]) -> Answer {
+    let Some(t) = Table::open(words) else {
+        return declined(1);
+    };
+    let places = t.best_places();
+    let best = &places[..t.members];
+    let ring = (0..t.members).filter(|&k| on_ring(best, k)).count();
+    let principals = t.count_principals();
+    let verdict = t.verdict(best, principals);
+    reply([t.members as u32, principals as u32, ring as u32, verdict])
+}
+
+#[inline(never)]
+pub fn alike(a: &[u32], b: &[u32]) -> Answer {
+    let (Some(a), Some(b)) = (Table::open(a), Table::open(b)) else {
+        return declined(1);
+    };
+    let alike = a.r == b.r
+        && a.members == b.members
+        && a.records()
+            .zip(b.records())
+            .all(|(x, y)| x[0] == y[0] && x[4] == y[4]);
+    reply([u32::from(alike), 0, 0, 0])
+}
+
+#[cfg(feature = "whole")]
+pub use whole::{findings, image_read, image_write};
+
+#[cfg(feature = "whole")]
+mod whole {
+    use super::*;
+
+    const FIRST: usize = 10;
+    const LAST: usize = 3;
+
+    /// The moves over the places to a member on the ring; the member count if there are none.
+    fn moves_to_ring(best: &[usize], on: &[bool], k: usize) -> u32 {
+        let mut at = k;
+        for moves in 0..best.len() {
+            match on.get(at) {
+                Some(true) => return moves as u32,
+                Some(false) => at = best[at],
+                None => break,
+            }
+        }
+        best.len() as u32
+    }
+
+    #[inline(never)]
+    pub fn findings(words: &[u32], findings: &mut [Finding]) -> Answer {
+        let Some(t) = Table::open(words) else {
+            return declined(1);
+        };
+        let Some(findings) = findings.get_mut(..t.members) else {
+            return declined(10);
+        };
+        let places = t.best_places();
+        let best = &places[..t.members];
+        let mut bits = [false; MEMBERS_MOST];
+        let on = &mut bits[..t.members];
+        for (k, bit) in on.iter_mut().enumerate() {
+            *bit = on_ring(best, k);
+        }
+        for (k, (finding, record)) in findings.iter_mut().zip(t.records()).enumerate() {
+            let id = record[0];
+            let principal = u32::from(t.is_principal(id));
+            *finding = Finding {
+                id,
+                principal,
+                moves: moves_to_ring(best, on, k),
+            };
+        }
+        let ring = on.iter().filter(|&&bit| bit).count();
+        let principals = findings.iter().filter(|f| f.principal == 1).count();
+        let verdict = t.verdict(best, principals);
+        reply([t.members as u32, principals as u32, ring as u32, verdict])
+    }
+
+    fn image_size(r: usize, members: usize) -> usize {
+        FIRST + members * (16 + 4 * r) + LAST
+    }
+
+    fn number2(bytes: &[u8], at: usize) -> usize {
+        usize::from(u16::from_be_bytes(bytes[at..at + 2].try_into().unwrap()))
+    }
+
+    fn number4(bytes: &[u8], at: usize) -> u32 {
+        u32::from_be_bytes(bytes[at..at + 4].try_into().unwrap())
+    }
+
+    fn put2(bytes: &mut [u8], at: usize, x: usize) {
+        bytes[at..at + 2].copy_from_slice(&(x as u16).to_be_bytes());
+    }
+
+    fn put4(bytes: &mut [u8], at: usize, x: u32) {
+        bytes[at..at + 4].copy_from_slice(&x.to_be_bytes());
+    }
+
+    #[inline(never)]
+    pub fn image_write(words: &[u32], image: &mut [u8]) -> Answer {
+        let Some(t) = Table::open(words) else {
+            return declined(1);
+        };
+        let size = image_size(t.r, t.members);
+        let Some(image) = image.get_mut(..size) else {
+            return declined(10);
+        };
+        let (first, rest) = image.split_at_mut(FIRST);
+        let (fields, last) = rest.split_at_mut(size - FIRST - LAST);
+        first[0] = 1;
+        put2(first, 1, 7);
+        first[3] = t.r as u8;
+        put2(first, 4, t.members);
+        put4(first, 6, words[2]);
+        for (field, record) in fields.chunks_exact_mut(16 + 4 * t.r).zip(t.records()) {
+            field[0] = 2;
+            put2(field, 1, 13 + 4 * t.r);
+            put4(field, 3, record[0]);
+            put4(field, 7, record[1]);
+            field[11] = record[2] as u8;
+            for (bytes, word) in field[12..].chunks_exact_mut(4).zip(&record[3..]) {
+                bytes.copy_from_slice(&word.to_be_bytes());
+            }
+        }
+        last.copy_from_slice(&[3, 0, 0]);
+        reply([size as u32, 0, 0, 0])
+    }
+
+    /// r and the member count, if the bytes are the writing of a well-formed table.
+    fn judged(image: &[u8]) -> Option<(usize, usize)> {
+        if image.len() < FIRST + LAST || image[..3] != [1, 0, 7] {
+            return None;
+        }
+        let (r, members) = (usize::from(image[3]), number2(image, 4));
+        if !(1..=8).contains(&r) || members > MEMBERS_MOST || image.len() != image_size(r, members)
+        {
+            return None;
+        }
+        let (fields, last) = image[FIRST..].split_at(image.len() - FIRST - LAST);
+        let mut lowest = 0;
+        for field in fields.chunks_exact(16 + 4 * r) {
+            let (id, pending, candidate) =
+                (u64::from(number4(field, 3)), field[11], number4(field, 12));
+            if field[0] != 2
+                || number2(field, 1) != 13 + 4 * r
+                || id < lowest
+                || pending > 1
+                || (pending == 0 && candidate != 0)
+            {
+                return None;
+            }
+            lowest = id + 1;
+        }
+        (last == [3, 0, 0]).then_some((r, members))
+    }
+
+    #[inline(never)]
+    pub fn image_read(words: &mut [u32], image: &[u8]) -> Answer {
+        let Some((r, members)) = judged(image) else {
+            return declined(9);
+        };
+        let Some(words) = words.get_mut(..HEADER + members * (r + 4)) else {
+            return declined(10);
+        };
+        let (header, records) = words.split_at_mut(HEADER);
+        header.copy_from_slice(&[r as u32, members as u32, number4(image, 6)]);
+        let fields = image[FIRST..].chunks_exact(16 + 4 * r);
+        for (record, field) in records.chunks_exact_mut(r + 4).zip(fields) {
+            record[0] = number4(field, 3);
+            record[1] = number4(field, 7);
+            record[2] = u32::from(field[11]);
+            for (word, bytes) in record[3..].iter_mut().zip(field[12..].chunks_exact(4)) {
+                *word = u32::from_be_bytes(bytes.try_into().unwrap());
+            }
+        }
+        reply([members as u32, 0, 0, 0])
+    }
+}
