@@ -14,19 +14,19 @@ pub struct Reader<'a> {
 }
 
 // Where the reader stands after a reply at a position: past the field, or where it was.
-// A reply of four values is taken for a field, as its answer is the same.
+// A report has a field's four values, and so the same answer: here and in `part_of` it is taken for a field.
 pub fn next_of(f: Reply, at: usize) -> usize
     ensures { λ k. ⌜ k ≡ nextOf (answerOf f) at ⌝ }
 {
     match f {
         Reply::Field(_, _, _, next) => next as usize,
-        Reply::Report(_, _, _, next) => next as usize,
+        Reply::Report(_, _, _, last) => last as usize,
         _ => at,
     }
 }
 
 // The part of a slice that starts at a place and has a size, or the empty part where the slice ends before it.
-pub fn part(image: &[u8], start: u32, size: u32) -> &[u8]
+fn part(image: &[u8], start: u32, size: u32) -> &[u8]
     ensures { λ p. ⌜ now p ≡ partOf start size (now (image .entry)) ⌝ }
 {
     let a = start as usize;
