@@ -32,10 +32,6 @@ same-refl (x ∷ l) = true-and (eq-eqb x x refl) (same-refl l)
 
 -- A number and its bytes
 
-pub bytes-length : (k n : ℕ) → length (bytesOf k n) ≡ k
-bytes-length zero n = refl
-bytes-length (suc k) n = length-append (bytesOf k (n / 256)) _ ∙ omega (arith, bytes-length k (n / 256))
-
 number-append : (a : ℕ) (l m : List ℕ) → numberFrom a (l ++ m) ≡ numberFrom (numberFrom a l) m
 number-append a [] m = refl
 number-append a (b ∷ l) m = number-append (a * 256 + b) l m
