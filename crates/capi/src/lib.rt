@@ -2,7 +2,7 @@
 ghost use mathlib.Core.Path.{_≡_};
 ghost use Rattle.model.specs.Calls.{joinAnswer, joinWords, stabilizeAnswer, stabilizeWords, rectifyAnswer, rectifyWords, failAnswer, failWords, leaveAnswer, leaveWords, lookupAnswer, auditAnswer, newAnswer, newWords, alikeAnswer, writeAnswer, writeBytes, readAnswer, readWords, findingsAnswer, findingsAfter};
 ghost use Rattle.model.specs.Image.{fieldAt};
-ghost use Rattle.findings.specs.Filled.{views};
+ghost use Rattle.finding.specs.View.{views};
 ghost use Rattle.reply.specs.Answers.{answerOf};
 ghost use Rattle.capi.specs.Packed.{packed, takeOverAnswer};
 use finding::Finding;

@@ -3,14 +3,12 @@ use Prim.Native.Nat.{ℕ, suc, _+_, _≤_, _<_}
 use mathlib.Core.Path.{_≡_, refl}
 use mathlib.Core.List.{List, [], _∷_}
 use mathlib.Core.Bool.{Bool}
-use mathlib.Core.Logic.{_⊎_, inl, inr}
-use native.Mathlib.Numerals.{add-one}
 use native.Mathlib.Omega.{arith}
-use lib.ListN.{length, getD, take, drop, set, length-set, length-take, drop-of-length-le}
-use lib.Seq.{drop-cons, getD-take, getD-set-same, getD-set-other}
+use lib.ListN.{length, getD, take, drop, set, length-set, length-take}
+use lib.Seq.{getD-take}
 use Rattle.model.specs.Lists.{bit, count}
 use Rattle.model.specs.Table.{Member, ids}
-use Rattle.laws.specs.Order.{equal?}
+use Rattle.ring.proofs.Laws.{stored-one, counted-one, counted-all}
 use Rattle.finding.specs.Survey.{Each}
 
 module _ (ms : List Member) (g : ℕ → ℕ) where
@@ -19,11 +17,7 @@ module _ (ms : List Member) (g : ℕ → ℕ) where
 
   -- with the number of the next member stored, one more is right
   pub each-stored : (n : ℕ) (a : List ℕ) (v : ℕ) → n < length a → Each ms g n a → v ≡ g (getD (ids ms) n 0) → Each ms g (n + 1) (set a n v)
-  each-stored n a v h e q = record { size = simp length-set (omega arith); at = λ k l. go k l (equal? k n) }
-    where
-      go : (k : ℕ) → k < n + 1 → (k ≡ n) ⊎ (k ≡ n → ⊥) → getD (set a n v) k 0 ≡ g (getD (ids ms) k 0)
-      go k l (inl s) = rw (s, getD-set-same a n v 0 h) q
-      go k l (inr s) = rw (getD-set-other a n k v 0 s) (e .at k (omega arith))
+  each-stored n a v h e q = record { size = simp length-set (omega arith); at = stored-one (λ k. g (getD (ids ms) k 0)) a n v h (e .at) q }
 
   pub each-all : (a : List ℕ) (k n : ℕ) → n ≤ k → Each ms g k a → Each ms g n a
   each-all a k n h e = record { size = omega (arith, e .size); at = λ i l. e .at i (omega arith) }
@@ -37,7 +31,7 @@ count-pairs f h (x ∷ l) (y ∷ a) le e = let w : f y ≡ h x = e 0 (omega arit
 -- `count_of`: the test b of one number counts
 module _ (f : ℕ → Bool) (a : List ℕ) (n : ℕ) (le : n ≤ length a) where
   pub count-one : (k c d : ℕ) (b : Bool) → k < n → b ≡ f (getD a k 0) → d ≡ c + bit b → d + count f (drop (k + 1) (take n a)) ≡ c + count f (drop k (take n a))
-  count-one k c d b h t e = rw (add-one, drop-cons (take n a) k 0 (simp length-take (omega arith)), getD-take n a k 0 h, ← t) (omega arith)
+  count-one k c d b h t e = counted-one f (take n a) k c d b (simp length-take (omega arith)) (rw (getD-take n a k 0 h) t) e
 
   pub count-end : (k : ℕ) → n ≤ k → count f (drop k (take n a)) ≡ 0
-  count-end k h = rw (drop-of-length-le (take n a) {i = k} (simp length-take (omega arith)))
+  count-end k h = counted-all f (take n a) k (simp length-take (omega arith))

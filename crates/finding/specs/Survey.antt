@@ -34,12 +34,12 @@ pub record Surveyed (ws : List ℕ) (s : Survey) : Type 0 where
   pub ways : Each (membersIn ws) (movesToRing (membersIn ws)) (s .members) (s .moves)
 
 -- how many findings are written into a list of `room` records: one a member, or none where the call is declined
-abbrev pub written : List ℕ → ℕ → ℕ
-written ws room = length (afterwards (findingsRefusal ws room) (membersIn ws) [])
+abbrev pub toWrite : List ℕ → ℕ → ℕ
+toWrite ws room = length (afterwards (findingsRefusal ws room) (membersIn ws) [])
 
 -- a survey for a list of `room` records: it counts the findings to be written, and has the answer
 pub record Prepared (ws : List ℕ) (room : ℕ) (s : Survey) : Type 0 where
   pub right : Surveyed ws s
-  pub members : s .members ≡ written ws room
+  pub members : s .members ≡ toWrite ws room
   pub within : s .members ≤ room
   pub reply : answerOf (s .reply) ≡ answer (findingsRefusal ws room) (accepted (auditReply (tableOf ws)))

@@ -18,13 +18,13 @@ use Rattle.model.specs.Calls.{findingsAnswer, findingsAfter}
 use Rattle.laws.specs.Lists.{length-ids}
 use Rattle.laws.specs.Accepted.{none-applies}
 use Rattle.finding.specs.declared.Finding.{Finding}
-use Rattle.finding.specs.View.{view}
-use Rattle.finding.specs.Survey.{written}
-use Rattle.findings.specs.Filled.{views, recordOf, recordAt, filled}
+use Rattle.finding.specs.View.{view, views}
+use Rattle.finding.specs.Survey.{toWrite}
+use Rattle.findings.specs.Filled.{asRecord, recordAt, filled}
 
 -- a record is known by its view
-pub by-view : (f : Finding) (g : FindingOf) → view f ≡ g → f ≡ recordOf g
-by-view f g e = ap recordOf e
+pub by-view : (f : Finding) (g : FindingOf) → view f ≡ g → f ≡ asRecord g
+by-view f g e = ap asRecord e
 
 -- writing leaves the length
 pub filled-length : (ms : List Member) (ys : List Finding) (n : ℕ) → length (filled ms n ys) ≡ length ys
@@ -67,7 +67,7 @@ module _ (ws : List ℕ) (ys : List Finding) where
   all-filled h = filled-views ms ys (length ms) (omega arith) h ∙ rw (← findings-length ms, take-length (findings ms))
 
   -- the records that are written for a call leave what the model says
-  pub filled-after : views (filled ms (written ws (length ys)) ys) ≡ findingsAfter ws (views ys)
+  pub filled-after : views (filled ms (toWrite ws (length ys)) ys) ≡ findingsAfter ws (views ys)
   unfolding findingsAfter
   filled-after = rw (length-map ys view) (go (findingsRefusal ws (length ys)) refl)
     where

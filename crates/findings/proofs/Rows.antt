@@ -1,4 +1,4 @@
--- The types of the walks' locals and parameters: a `Finding`, a `Survey`, a `Reply`, and the slices. Assumes nothing.
+-- The rows, machine values and MIR types of what the walks handle: records, surveys and the two slices. Assumes nothing.
 use Prim.Native.Nat.{ℕ, _*_, _<_, _^_}
 use native.Mathlib.Omega.{arith}
 use mathlib.Core.List.{List, [], _∷_}

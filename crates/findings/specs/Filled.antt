@@ -1,23 +1,18 @@
 -- A list of records once the findings of the first members are written.
 use Prim.Native.Nat.{ℕ, zero, suc}
-use mathlib.Core.List.{List, map}
+use mathlib.Core.List.{List}
 use lib.ListN.{getD, set}
 use Rattle.model.specs.Table.{Member, ids}
 use Rattle.model.specs.Findings.{Finding as FindingOf, findingOf}
 use Rattle.finding.specs.declared.Finding.{Finding}
-use Rattle.finding.specs.View.{view}
 
--- a list of records as the model's findings
-abbrev pub views : List Finding → List FindingOf
-views fs = map view fs
-
--- the record whose view is a finding
-abbrev pub recordOf : FindingOf → Finding
-recordOf f = record { id = f .id; principal = f .principal; moves = f .moves }
+-- a finding as a record
+abbrev pub asRecord : FindingOf → Finding
+asRecord f = record { id = f .id; principal = f .principal; moves = f .moves }
 
 -- the record of the member at place k
 abbrev pub recordAt : List Member → ℕ → Finding
-recordAt ms k = recordOf (findingOf ms (getD (ids ms) k 0))
+recordAt ms k = asRecord (findingOf ms (getD (ids ms) k 0))
 
 -- the records ys with those of the first n members in the first n places
 abbrev pub filled : List Member → ℕ → List Finding → List Finding

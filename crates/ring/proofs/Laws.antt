@@ -101,6 +101,23 @@ pub reaches-end : (ms : List Member) (left z x : ℕ) → left ≤ 0 → false �
 reaches-end ms zero z x h = refl
 reaches-end ms (suc left) z x h = absurd (omega arith)
 
+-- Loops over places
+
+-- with v stored at place k, one place more is right
+pub stored-one : (h : ℕ → ℕ) (a : List ℕ) (k v : ℕ) → k < length a → ((i : ℕ) → i < k → getD a i 0 ≡ h i) → v ≡ h k → (i : ℕ) → i < k + 1 → getD (set a k v) i 0 ≡ h i
+stored-one h a k v l r e i b = go (equal? i k)
+  where
+    go : (i ≡ k) ⊎ (i ≡ k → ⊥) → getD (set a k v) i 0 ≡ h i
+    go (inl q) = rw (q, getD-set-same a k v 0 l) e
+    go (inr q) = rw (getD-set-other a k i v 0 q) (r i (omega arith))
+
+-- the test b of one element counts
+pub counted-one : (g : ℕ → Bool) (l : List ℕ) (k c d : ℕ) (b : Bool) → k < length l → b ≡ g (getD l k 0) → d ≡ c + bit b → d + count g (drop (k + 1) l) ≡ c + count g (drop k l)
+counted-one g l k c d b h t e = rw (add-one, drop-cons l k 0 h, ← t) (omega arith)
+
+pub counted-all : (g : ℕ → Bool) (l : List ℕ) (k : ℕ) → length l ≤ k → count g (drop k l) ≡ 0
+counted-all g l k h = rw (drop-of-length-le l {i = k} h)
+
 -- In a whole table
 
 module _ (ws : List ℕ) where
@@ -155,11 +172,7 @@ module _ (ws : List ℕ) where
   Right a k = (i : ℕ) → i < k → getD a i 0 ≡ firstPlace ms (getD ms i nobody .successors)
 
   pub stored : (a : List ℕ) (k j : ℕ) → k < length a → Right a k → j ≡ firstPlace ms (getD ms k nobody .successors) → Right (set a k j) (k + 1)
-  stored a k j h r e i l = go (equal? i k)
-    where
-      go : (i ≡ k) ⊎ (i ≡ k → ⊥) → getD (set a k j) i 0 ≡ firstPlace ms (getD ms i nobody .successors)
-      go (inl q) = rw (q, getD-set-same a k j 0 h) e
-      go (inr q) = rw (getD-set-other a k i j 0 q) (r i (omega arith))
+  stored a k j h r e = stored-one (λ i. firstPlace ms (getD ms i nobody .successors)) a k j h r e
 
   pub all-stored : (a : List ℕ) (k : ℕ) → Right a k → n ≤ k → BestPlaces ws a
   all-stored a k r h = record { at = λ i l. r i (omega (arith, member-count)) }
@@ -170,10 +183,10 @@ module _ (ws : List ℕ) where
 
   -- `count_ring`: the test b of one identifier counts
   pub counted : (g : ℕ → Bool) (k c d : ℕ) (b : Bool) → k < n → b ≡ g (idAt k) → d ≡ c + bit b → d + count g (drop (k + 1) (ids ms)) ≡ c + count g (drop k (ids ms))
-  counted g k c d b h t e = rw (add-one, drop-cons (ids ms) k 0 (omega (arith, ids-count ws)), ← t) (omega arith)
+  counted g k c d b h t e = counted-one g (ids ms) k c d b (omega (arith, ids-count ws)) t e
 
   pub count-end : (g : ℕ → Bool) (k : ℕ) → n ≤ k → count g (drop k (ids ms)) ≡ 0
-  count-end g k h = rw (drop-of-length-le (ids ms) {i = k} (omega (arith, ids-count ws)))
+  count-end g k h = counted-all g (ids ms) k (omega (arith, ids-count ws))
 
   -- the best successor of the member at place k, by its place j
   module _ (k j : ℕ) (h : k < n) (e : j ≡ firstPlace ms (getD ms k nobody .successors)) where

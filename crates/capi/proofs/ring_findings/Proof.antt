@@ -44,7 +44,7 @@ use Rattle.reply.proofs.Reply as Q
 use Rattle.reply.proofs.Reply.Laws as Q′
 use Rattle.finding.specs.declared.Finding.{Finding}
 use Rattle.finding.proofs.Finding as T
-use Rattle.findings.specs.Filled.{views}
+use Rattle.finding.specs.View.{views}
 use Rattle.findings.proofs.findings as findings
 use Rattle.findings.proofs.findings.Symbol as findings-def
 use Rattle.findings.proofs.findings.Symbol.{name as #findings·findings}

@@ -17,10 +17,10 @@ table : (c : tie.Then1) → Formed (c .before .before .before .args .t .now)
 table c = formed _ (good c)
 
 shared-slice-read-n : tie.Need-shared-slice-read-n
-shared-slice-read-n c = omega (arith, table (c .before) .header)
+shared-slice-read-n c = let f = table (c .before) in omega arith
 
 cast-n : tie.Need-cast-n
-cast-n c = omega (arith, table (c .before) .few)
+cast-n c = let f = table (c .before) in omega arith
 
 returns : tie.Need-returns
 returns c =

@@ -45,6 +45,7 @@ use Rattle.reply.proofs.Reply as Q
 use Rattle.reply.proofs.Reply.Laws as Q′
 use Rattle.finding.specs.declared.Finding.{Finding}
 use Rattle.finding.specs.declared.Survey.{Survey}
+use Rattle.finding.specs.View.{views}
 use Rattle.finding.specs.Survey.{Prepared}
 use Rattle.finding.proofs.Survey as U
 use Rattle.finding.proofs.Survey.Laws as U′
@@ -52,7 +53,7 @@ use Rattle.finding.proofs.prepare as prepare
 use Rattle.finding.proofs.prepare.Symbol as prepare-def
 use Rattle.finding.proofs.prepare.Symbol.{name as #finding·prepare}
 use Rattle.finding.proofs.prepare.Met as prepare-thm
-use Rattle.findings.specs.Filled.{views, filled}
+use Rattle.findings.specs.Filled.{filled}
 use Rattle.findings.proofs.Filling.{filled-after, answered}
 use Rattle.findings.proofs.Rows.{R, S, surveyVal}
 use Rattle.findings.proofs.fill as fill

@@ -1,0 +1,4 @@
+-- Laws that the proofs of this crate cite.
+pub mod Strings
+pub mod Digits
+pub mod Parts

@@ -1,0 +1,2 @@
+-- What the reading of a line cites.
+pub mod Reading

@@ -1,0 +1,2 @@
+-- What a session's contract cites.
+pub mod Outcomes

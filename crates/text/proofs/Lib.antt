@@ -1,0 +1,4 @@
+-- Laws that the proofs of this crate cite.
+pub mod Writing
+pub mod Digits
+pub mod Answers

@@ -1,0 +1,2 @@
+-- What the writing of answers cites.
+pub mod Written
