@@ -1,30 +1,13 @@
-//! Links the library that is measured: RING_ARCHIVE names its archive, lib<name>.a.
+//! Links the library that is measured.
 
-use std::path::PathBuf;
+#[path = "../tests/differential/link.rs"]
+mod link;
 
 fn main() {
     println!("cargo:rerun-if-changed=build.rs");
-    println!("cargo:rerun-if-env-changed=RING_ARCHIVE");
-    let given = std::env::var_os("RING_ARCHIVE")
-        .filter(|v| !v.is_empty())
-        .expect("RING_ARCHIVE must name the static library, as path/to/libcapi.a");
-    let archive = PathBuf::from(&given)
-        .canonicalize()
-        .unwrap_or_else(|e| panic!("RING_ARCHIVE {given:?}: {e}"));
-    let folder = archive.parent().expect("RING_ARCHIVE has no folder");
-    let file = archive.file_name().and_then(|f| f.to_str()).unwrap_or("");
-    let name = file
-        .strip_prefix("lib")
-        .and_then(|f| f.strip_suffix(".a"))
-        .unwrap_or_else(|| panic!("RING_ARCHIVE must be a file lib<name>.a, not {file:?}"));
-    println!("cargo:rerun-if-changed={}", archive.display());
-    println!("cargo:rustc-link-search=native={}", folder.display());
-    if std::env::var("CARGO_CFG_TARGET_OS").is_ok_and(|os| os == "linux") {
-        // Behind the standard library, and with doubles allowed: an archive
-        // without the standard library may bring a panic handler of its own.
-        println!("cargo:rustc-link-arg-bins=-Wl,--allow-multiple-definition");
-        println!("cargo:rustc-link-arg-bins=-l:{file}");
-    } else {
-        println!("cargo:rustc-link-lib=static={name}");
-    }
+    println!("cargo:rerun-if-changed=../tests/differential/link.rs");
+    assert!(
+        link::link_archive(),
+        "RING_ARCHIVE must name the static library, as path/to/libcapi.a"
+    );
 }

@@ -169,7 +169,7 @@ impl<'a> Table<'a> {
     fn rank(&self, x: u32) -> usize {
         let (mut low, mut high) = (0, self.members);
         while low < high {
-            let middle = low + (high - low) / 2;
+            let middle = (low + high) / 2;
             if self.id(middle) < x {
                 low = middle + 1;
             } else {
@@ -179,11 +179,27 @@ impl<'a> Table<'a> {
         low
     }
 
+    /// Does the member x stand at place k?
+    #[inline]
+    fn stands_at(&self, k: usize, x: u32) -> bool {
+        k < self.members && self.id(k) == x
+    }
+
+    /// How many members stand below x: as many as guessed, if x stands there.
+    #[inline]
+    fn rank_from(&self, guess: usize, x: u32) -> usize {
+        if self.stands_at(guess, x) {
+            guess
+        } else {
+            self.rank(x)
+        }
+    }
+
     /// The place of x, or where it would stand.
     #[inline]
     fn search(&self, x: u32) -> Result<usize, usize> {
         let k = self.rank(x);
-        if k < self.members && self.id(k) == x {
+        if self.stands_at(k, x) {
             Ok(k)
         } else {
             Err(k)
@@ -195,30 +211,58 @@ impl<'a> Table<'a> {
         self.search(x).ok()
     }
 
-    /// The place of the first live entry of the record's list.
+    /// The place of the first live entry of the list at place k, looked for first at the next place.
     #[inline]
-    fn best_place(&self, record: &[u32]) -> Option<usize> {
-        record[4..].iter().find_map(|&x| self.place(x))
+    fn best_place(&self, k: usize) -> Option<usize> {
+        self.record(k)[4..].iter().find_map(|&x| {
+            let place = self.rank_from(k + 1, x);
+            self.stands_at(place, x).then_some(place)
+        })
     }
 
     /// The places of all best successors; the member count where there is none.
     fn best_places(&self) -> [usize; MEMBERS_MOST] {
         let mut places = [0; MEMBERS_MOST];
-        for (place, record) in places.iter_mut().zip(self.records()) {
-            *place = self.best_place(record).unwrap_or(self.members);
+        for (k, place) in places[..self.members].iter_mut().enumerate() {
+            *place = self.best_place(k).unwrap_or(self.members);
         }
         places
     }
 
-    #[inline]
-    fn is_principal(&self, x: u32) -> bool {
-        !self.records().any(|record| skips(record, x))
+    /// By place, how far the ranges of members reach that some list skips from there on.
+    fn skipped(&self) -> [usize; MEMBERS_MOST] {
+        let mut reach = [0; MEMBERS_MOST];
+        for (k, record) in self.records().enumerate() {
+            let (mut q, mut low) = (record[0], k + 1);
+            for &b in &record[4..] {
+                let high = self.rank_from(low, b);
+                if q < b {
+                    cover(&mut reach, low, high);
+                } else {
+                    cover(&mut reach, low, self.members);
+                    cover(&mut reach, 0, high);
+                }
+                low = high + usize::from(self.stands_at(high, b));
+                q = b;
+            }
+        }
+        reach
+    }
+
+    /// By place: 1 for a principal, else 0.
+    fn principal_bits(&self) -> [u32; MEMBERS_MOST] {
+        let reach = self.skipped();
+        let mut bits = [0; MEMBERS_MOST];
+        let mut top = 0;
+        for (k, (bit, &to)) in bits.iter_mut().zip(&reach).take(self.members).enumerate() {
+            top = to.max(top);
+            *bit = u32::from(top <= k);
+        }
+        bits
     }
 
     fn count_principals(&self) -> usize {
-        self.records()
-            .filter(|record| self.is_principal(record[0]))
-            .count()
+        count_of(&self.principal_bits()[..self.members], 1)
     }
 
     /// 0 not sound, 1 sound, 2 sound and ideal.
@@ -252,31 +296,47 @@ impl<'a> Table<'a> {
     }
 }
 
-/// Do some two neighbours of the record's extended list skip x?
+fn count_of(numbers: &[u32], v: u32) -> usize {
+    numbers.iter().filter(|&&x| x == v).count()
+}
+
+/// The members from place low to below high are marked.
 #[inline]
-fn skips(record: &[u32], x: u32) -> bool {
-    let mut a = record[0];
-    record[4..]
-        .iter()
-        .any(|&b| between(std::mem::replace(&mut a, b), x, b))
+fn cover(reach: &mut [usize; MEMBERS_MOST], low: usize, high: usize) {
+    if low < high {
+        reach[low] = reach[low].max(high);
+    }
 }
 
 fn candidate_inside(record: &[u32]) -> bool {
     record[2] == 0 || between(record[0], record[3], record[4])
 }
 
-/// Does the walk over the places come back to k?
-#[inline]
-fn on_ring(best: &[usize], k: usize) -> bool {
-    let mut at = k;
-    for _ in 0..best.len() {
-        match best.get(at) {
-            Some(&next) if next == k => return true,
-            Some(&next) => at = next,
-            None => return false,
+/// By place, where the moves of an array made twice lead; the member count stands for none and stays.
+fn doubled(moves: &[usize], members: usize) -> [usize; MEMBERS_MOST] {
+    let mut twice = [0; MEMBERS_MOST];
+    for (to, &j) in twice.iter_mut().zip(moves) {
+        *to = moves.get(j).copied().unwrap_or(members);
+    }
+    twice
+}
+
+/// By place: 1 for a member on the ring, else 0. On it are those that as many moves lead to as there are members, or more.
+fn ring_bits(best: &[usize]) -> [u32; MEMBERS_MOST] {
+    let members = best.len();
+    let mut far = doubled(best, members);
+    let mut moves = 2;
+    while moves < members {
+        far = doubled(&far[..members], members);
+        moves += moves;
+    }
+    let mut bits = [0; MEMBERS_MOST];
+    for &j in &far[..members] {
+        if j < members {
+            bits[j] = 1;
         }
     }
-    false
+    bits
 }
 
 /// The record at a place goes; those above move down, and the words freed become 0.

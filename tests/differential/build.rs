@@ -1,32 +1,12 @@
 //! Links the library under test, if RING_ARCHIVE names one.
 
-use std::path::PathBuf;
+mod link;
 
 fn main() {
     println!("cargo:rerun-if-changed=build.rs");
-    println!("cargo:rerun-if-env-changed=RING_ARCHIVE");
+    println!("cargo:rerun-if-changed=link.rs");
     println!("cargo:rustc-check-cfg=cfg(no_archive)");
-    let Some(given) = std::env::var_os("RING_ARCHIVE").filter(|v| !v.is_empty()) else {
+    if !link::link_archive() {
         println!("cargo:rustc-cfg=no_archive");
-        return;
-    };
-    let archive = PathBuf::from(&given)
-        .canonicalize()
-        .unwrap_or_else(|e| panic!("RING_ARCHIVE {given:?}: {e}"));
-    let folder = archive.parent().expect("RING_ARCHIVE has no folder");
-    let file = archive.file_name().and_then(|f| f.to_str()).unwrap_or("");
-    let name = file
-        .strip_prefix("lib")
-        .and_then(|f| f.strip_suffix(".a"))
-        .unwrap_or_else(|| panic!("RING_ARCHIVE must be a file lib<name>.a, not {file:?}"));
-    println!("cargo:rerun-if-changed={}", archive.display());
-    println!("cargo:rustc-link-search=native={}", folder.display());
-    if std::env::var("CARGO_CFG_TARGET_OS").is_ok_and(|os| os == "linux") {
-        // Behind the standard library, and with doubles allowed: an archive
-        // without the standard library brings a panic handler of its own.
-        println!("cargo:rustc-link-arg-bins=-Wl,--allow-multiple-definition");
-        println!("cargo:rustc-link-arg-bins=-l:{file}");
-    } else {
-        println!("cargo:rustc-link-lib=static={name}");
     }
 }

@@ -170,24 +170,24 @@ pub fn lookup(words: &[u32], n: u32, k: u32) -> Answer {
     let Some(start) = t.place(n) else {
         return declined(3);
     };
-    let mut record = t.record(start);
+    let mut at = start;
     for moves in 0..t.members as u32 {
-        let q = record[0];
-        let Some(next) = t.best_place(record) else {
+        let q = t.id(at);
+        let Some(next) = t.best_place(at) else {
             return Answer {
                 number: 8,
                 values: [q, 0, 0, 0],
             };
         };
-        record = t.record(next);
-        let b = record[0];
+        at = next;
+        let b = t.id(at);
         if k == b || between(q, k, b) {
             return reply([b, q, moves, 0]);
         }
     }
     Answer {
         number: 8,
-        values: [record[0], 0, 0, 0],
+        values: [t.id(at), 0, 0, 0],
     }
 }
 
@@ -198,7 +198,7 @@ pub fn audit(words: &[u32]) -> Answer {
     };
     let places = t.best_places();
     let best = &places[..t.members];
-    let ring = (0..t.members).filter(|&k| on_ring(best, k)).count();
+    let ring = count_of(&ring_bits(best)[..t.members], 1);
     let principals = t.count_principals();
     let verdict = t.verdict(best, principals);
     reply([t.members as u32, principals as u32, ring as u32, verdict])
@@ -227,17 +227,30 @@ mod whole {
     const FIRST: usize = 10;
     const LAST: usize = 3;
 
-    /// The moves over the places to a member on the ring; the member count if there are none.
-    fn moves_to_ring(best: &[usize], on: &[bool], k: usize) -> u32 {
-        let mut at = k;
-        for moves in 0..best.len() {
-            match on.get(at) {
-                Some(true) => return moves as u32,
-                Some(false) => at = best[at],
+    /// One more than the moves to the ring from each place, where at first only the places on it are known: each is found once.
+    /// The member count where a walk never comes there.
+    fn settle(best: &[usize], known: &mut [u32], k: usize) {
+        if known[k] > 0 {
+            return;
+        }
+        let (mut at, mut steps, mut value) = (k, 0, best.len());
+        while steps < best.len() {
+            at = best[at];
+            steps += 1;
+            match known.get(at) {
                 None => break,
+                Some(0) => (),
+                Some(&v) => {
+                    value = v as usize - 1;
+                    break;
+                }
             }
         }
-        best.len() as u32
+        at = k;
+        for left in (1..=steps).rev() {
+            known[at] = (value + left).min(best.len()) as u32 + 1;
+            at = best[at];
+        }
     }
 
     #[inline(never)]
@@ -250,21 +263,18 @@ mod whole {
         };
         let places = t.best_places();
         let best = &places[..t.members];
-        let mut bits = [false; MEMBERS_MOST];
-        let on = &mut bits[..t.members];
-        for (k, bit) in on.iter_mut().enumerate() {
-            *bit = on_ring(best, k);
-        }
+        let mut bits = ring_bits(best);
+        let known = &mut bits[..t.members];
+        let ring = count_of(known, 1);
+        let principal = t.principal_bits();
         for (k, (finding, record)) in findings.iter_mut().zip(t.records()).enumerate() {
-            let id = record[0];
-            let principal = u32::from(t.is_principal(id));
+            settle(best, known, k);
             *finding = Finding {
-                id,
-                principal,
-                moves: moves_to_ring(best, on, k),
+                id: record[0],
+                principal: principal[k],
+                moves: known[k] - 1,
             };
         }
-        let ring = on.iter().filter(|&&bit| bit).count();
         let principals = findings.iter().filter(|f| f.principal == 1).count();
         let verdict = t.verdict(best, principals);
         reply([t.members as u32, principals as u32, ring as u32, verdict])

@@ -37,11 +37,10 @@ fn report(t: &[u32]) -> Reply
     requires { ⌜ Formed (now t) ⌝ }
     ensures { λ a. ⌜ answerOf a ≡ accepted (auditReply (tableOf (now (t .entry)))) ⌝ }
 {
-    let r = t[0] as usize;
     let n = t[1] as usize;
     let best = ring::best_places(t);
     let on = ring::count_ring(t, &best);
-    let count = principal::count_principals(&t[3..], r, n);
+    let count = principal::count_principals(t);
     let v = verdict_of(t, &best, count);
     Reply::Report(n as u32, count as u32, on as u32, v)
 }

@@ -14,31 +14,19 @@ ghost use Rattle.reply.specs.Answers.{answerOf};
 use reply::Reply;
 
 // The words of the table, copied: a withdrawal is tried on them first.
-fn copy_of(t: &[u32]) -> [u32; 3075]
+fn copy_table(a: &mut [u32; 3075], t: &[u32])
     requires { ⌜ Formed (now t) ⌝ }
-    ensures { λ a. ⌜ take (size (tableOf (now (t .entry)))) a ≡ take (size (tableOf (now (t .entry)))) (now (t .entry)) ⌝ }
+    requires { ⌜ length (now a) ≡ 3075 ⌝ }
+    ensures { λ _. ⌜ (take (size (tableOf (now (t .entry)))) (now (a .exit)) ≡ take (size (tableOf (now (t .entry)))) (now (t .entry))) × (length (now (a .exit)) ≡ 3075) ⌝ }
 {
     let r = t[0] as usize;
     let n = t[1] as usize;
     let end = words::offset(r, n);
-    let mut a = [0u32; 3075];
     let mut i = 0;
     while i < end {
         a[i] = t[i];
         i += 1;
     }
-    a
-}
-
-// The table without its member n, in a copy.
-fn without_member(t: &[u32], n: u32) -> [u32; 3075]
-    requires { ⌜ Formed (now t) ⌝ }
-    requires { ⌜ live (membersIn (now t)) n ≡ true ⌝ }
-    ensures { λ a. ⌜ (Formed a) × (tableOf a ≡ without n (tableOf (now (t .entry)))) ⌝ }
-{
-    let mut a = copy_of(t);
-    table::remove(&mut a, n);
-    a
 }
 
 // Why a withdrawal may not leave this table: 6 or 7, or 0.
@@ -47,10 +35,9 @@ fn causes(t: &[u32]) -> u32
     ensures { λ k. ⌜ k ≡ firstOf ((6 when cutsOff (tableOf (now (t .entry)))) ∷ (7 when tooFewPrincipals (tableOf (now (t .entry)))) ∷ []) ⌝ }
 {
     let r = t[0] as usize;
-    let n = t[1] as usize;
     let best = ring::best_places(t);
     if ring::all_live(t, &best) {
-        let count = principal::count_principals(&t[3..], r, n);
+        let count = principal::count_principals(t);
         if r < count {
             return 0;
         }
@@ -65,7 +52,9 @@ fn judged(t: &[u32], n: u32) -> u32
     requires { ⌜ live (membersIn (now t)) n ≡ true ⌝ }
     ensures { λ k. ⌜ k ≡ leaveRefusal (now (t .entry)) n ⌝ }
 {
-    let a = without_member(t, n);
+    let mut a = [0u32; 3075];
+    copy_table(&mut a, t);
+    table::remove(&mut a, n);
     let s: &[u32] = &a;
     causes(s)
 }

@@ -1,11 +1,12 @@
 -- Runs of elements in their places: one run behind the other is their sum in its place. Assumes nothing.
-use Prim.Native.Nat.{ℕ, zero, suc, _+_, _-_, _≤_, _<_}
+use Prim.Native.Nat.{ℕ, zero, suc, _+_, _*_, _-_, _≤_, _<_}
 use mathlib.Core.Path.{_≡_, refl, sym, ap, _∙_}
 use mathlib.Core.List.{List, [], _∷_, _++_, append-nil, append-assoc}
+use native.Mathlib.Numerals.{add-one}
 use native.Mathlib.Omega.{arith}
 use native.Mathlib.Nat.{add-zero}
 use lib.ListN.{length, getD, set, take, drop, take-append-drop, length-append, length-drop}
-use lib.Seq.{length-take-le, take-at, drop-at, drop-drop, sets-eq}
+use lib.Seq.{length-take-le, take-at, drop-at, drop-cons, drop-drop, sets-eq}
 use Rattle.model.specs.Image.{bytesOf, numberAt, words4, numbersAt}
 use Rattle.fields.specs.Placed.{placed}
 
@@ -34,20 +35,28 @@ placed-then at n a b l m k h e p q = q ∙ ap (placed (at + n) b) p ∙ placed-m
 pub placed-one : (at x : ℕ) (l : List ℕ) → at < length l → set l at x ≡ placed at (x ∷ []) l
 placed-one at x l h = sets-eq (x ∷ []) l at (omega arith)
 
--- The loops: what is left, placed behind what was placed, is the whole
+-- The loops: what is left after i turns, placed behind what was placed, is the whole
 
 -- `put_words`: one word in its four bytes
-pub word-turn : (at : ℕ) (p out : List ℕ) → 0 < length p → at ≤ length out → placed (at + 4) (words4 (drop 1 p)) (placed at (bytesOf 4 (getD p 0 0)) out) ≡ placed at (words4 p) out
-word-turn at [] out h l = absurd (omega arith)
-word-turn at (x ∷ p) out h l = placed-more at 4 (bytesOf 4 x) (words4 p) out l refl
+pub word-turn : (at i : ℕ) (ws out : List ℕ) → i < length ws → at + 4 * i ≤ length out → placed (at + 4 * (i + 1)) (words4 (drop (i + 1) ws)) (placed (at + 4 * i) (bytesOf 4 (getD ws i 0)) out) ≡ placed (at + 4 * i) (words4 (drop i ws)) out
+word-turn at i ws out h l =
+    let q : at + 4 * (i + 1) ≡ at + 4 * i + 4 = omega arith in
+    rw (q, add-one i, drop-cons ws i 0 h) (placed-more (at + 4 * i) 4 (bytesOf 4 (getD ws i 0)) (words4 (drop (suc i) ws)) out l refl)
 
--- `get_words`: one word of four bytes
-pub number-turn : (at n : ℕ) (p t : List ℕ) → 0 < n → at < length t → placed (at + 1) (numbersAt (n - 1) (drop 4 p)) (set t at (numberAt p 0 4)) ≡ placed at (numbersAt n p) t
-number-turn at zero p t h l = absurd (omega arith)
-number-turn at (suc n) p t h l =
-    let q : suc n - 1 ≡ n = omega arith in
-    rw (q, placed-one at (numberAt p 0 4) t l) (placed-more at 1 (numberAt p 0 4 ∷ []) (numbersAt n (drop 4 p)) t (omega arith) refl)
+-- `get_run`: one word of four bytes
+pub number-turn : (at i n : ℕ) (bs t : List ℕ) → i < n → at + i < length t → placed (at + (i + 1)) (numbersAt (n - (i + 1)) (drop (4 * (i + 1)) bs)) (set t (at + i) (numberAt bs (4 * i) 4)) ≡ placed (at + i) (numbersAt (n - i) (drop (4 * i) bs)) t
+number-turn at i n bs t h l =
+    let o : at + (i + 1) ≡ at + i + 1 = omega arith in
+    let k : n - i ≡ suc (n - (i + 1)) = omega arith in
+    let b : 4 * (i + 1) ≡ 4 * i + 4 = omega arith in
+    rw (o, k, b, ← drop-drop 4 (4 * i) bs, placed-one (at + i) (numberAt bs (4 * i) 4) t l) (placed-more (at + i) 1 (numberAt bs (4 * i) 4 ∷ []) (numbersAt (n - (i + 1)) (drop 4 (drop (4 * i) bs))) t (omega arith) refl)
 
-pub empty : (l : List ℕ) → length l ≤ 0 → l ≡ []
-empty [] h = refl
-empty (x ∷ l) h = absurd (omega arith)
+-- `get_words`: k numbers and those behind them
+pub numbers-more : (k m n : ℕ) (bs : List ℕ) → k + m ≡ n → numbersAt k bs ++ numbersAt m (drop (4 * k) bs) ≡ numbersAt n bs
+numbers-more zero m n bs e =
+    let q : m ≡ n = omega arith in
+    ap (λ (j : ℕ). numbersAt j bs) q
+numbers-more (suc k) m zero bs e = absurd (omega arith)
+numbers-more (suc k) m (suc n) bs e =
+    let q : 4 * suc k ≡ 4 + 4 * k = omega arith in
+    rw (q, ← drop-drop (4 * k) 4 bs) (ap (λ (l : List ℕ). numberAt bs 0 4 ∷ l) (numbers-more k m n (drop 4 bs) (omega arith)))

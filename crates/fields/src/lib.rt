@@ -64,12 +64,10 @@ pub fn put_words(out: &mut [u8], at: usize, ws: &[u32])
     requires { ⌜ at + 4 * length (now ws) ≤ length (now out) ⌝ }
     ensures { λ _. ⌜ now (out .exit) ≡ placed at (words4 (now (ws .entry))) (now (out .entry)) ⌝ }
 {
-    let mut p = ws;
-    let mut o = at;
-    while 0 < p.len() {
-        put4(out, o, p[0]);
-        p = &p[1..];
-        o += 4;
+    let mut i = 0;
+    while i < ws.len() {
+        put4(out, at + 4 * i, ws[i]);
+        i += 1;
     }
 }
 
@@ -85,19 +83,28 @@ pub fn write_field(out: &mut [u8], at: usize, ws: &[u32], r: usize)
 }
 
 // n words, each from four bytes.
+fn get_run(t: &mut [u32], at: usize, bs: &[u8], n: usize)
+    requires { ⌜ (4 * n ≤ length (now bs)) × (at + n ≤ length (now t)) ⌝ }
+    ensures { λ _. ⌜ now (t .exit) ≡ placed at (numbersAt n (now (bs .entry))) (now (t .entry)) ⌝ }
+{
+    let mut i = 0;
+    while i < n {
+        t[at + i] = number4(bs, 4 * i);
+        i += 1;
+    }
+}
+
+// The same, the first eight apart: a loop of a fixed count is faster.
 pub fn get_words(t: &mut [u32], at: usize, bs: &[u8], n: usize)
     requires { ⌜ (4 * n ≤ length (now bs)) × (at + n ≤ length (now t)) ⌝ }
     ensures { λ _. ⌜ now (t .exit) ≡ placed at (numbersAt n (now (bs .entry))) (now (t .entry)) ⌝ }
 {
-    let mut p = bs;
-    let mut o = at;
-    let mut left = n;
-    while 0 < left {
-        t[o] = number4(p, 0);
-        p = &p[4..];
-        o += 1;
-        left -= 1;
+    if 8 <= n {
+        get_run(t, at, bs, 8);
+        get_run(t, at + 8, &bs[32..], n - 8);
+        return;
     }
+    get_run(t, at, bs, n);
 }
 
 // The record of the member whose field stands at the front of bs.

@@ -1,4 +1,4 @@
 -- Laws that the proofs of this crate cite.
-pub mod Arrays
 pub mod Moves
+pub mod Ways
 pub mod Surveys

@@ -1,3 +1,4 @@
 -- What the contracts of this crate cite besides the model.
 pub mod View
 pub mod Survey
+pub mod Ways

@@ -1,19 +1,20 @@
 // One finding of the audit, and what all findings of a table need, each number computed once. For the crate `findings`.
 ghost use mathlib.Core.Path.{_≡_};
-ghost use Prim.Native.Nat.{_<_, _≤_};
-ghost use lib.Dec.{eqb};
-ghost use lib.ListN.{length, getD, take};
-ghost use Rattle.model.specs.Lists.{bit as bitOf, count};
+ghost use Prim.Native.Nat.{_<_};
+ghost use lib.ListN.{getD};
 ghost use Rattle.model.specs.Table.{membersIn, tableOf, ids};
 ghost use Rattle.model.specs.Ring.{movesToRing};
 ghost use Rattle.model.specs.Findings.{findingOf};
 ghost use Rattle.model.specs.Answer.{accepted, declined as declinedBy};
 ghost use Rattle.model.specs.Steps.{auditReply};
 ghost use Rattle.table.specs.Formed.{Formed};
+ghost use Rattle.places.specs.Each.{Each};
+ghost use Rattle.principal.specs.Marks.{principalBit};
 ghost use Rattle.ring.specs.Places.{BestPlaces};
 ghost use Rattle.reply.specs.Answers.{answerOf};
 ghost use Rattle.finding.specs.View.{view};
-ghost use Rattle.finding.specs.Survey.{Each, principalBit, ringBit, Surveyed, Prepared};
+ghost use Rattle.finding.specs.Survey.{Surveyed, Prepared};
+ghost use Rattle.finding.specs.Ways.{noMore, Begun, Settled, Measured};
 use reply::Reply;
 
 // One member's finding: identifier, 1 for a principal and else 0, moves to the ring (0 on it; the member count if the walk never comes there).
@@ -36,104 +37,104 @@ pub struct Survey {
     pub moves: [u32; 256],
 }
 
-// 1 for yes, 0 for no.
-fn bit(b: bool) -> u32
-    ensures { λ x. ⌜ x ≡ bitOf b ⌝ }
-{
-    if b { 1 } else { 0 }
+// A way of so many places whose moves to the ring are not known, and the moves from where it leads: the member count if nowhere.
+struct Way {
+    steps: usize,
+    value: u32,
 }
 
-// By place: 1 for a member on the ring, else 0.
-fn ring_bits(t: &[u32], best: &[usize; 256]) -> [u32; 256]
+// a, but no more than n.
+fn no_more(a: u32, n: u32) -> u32
+    ensures { λ m. ⌜ m ≡ noMore a n ⌝ }
+{
+    if n < a { n } else { a }
+}
+
+// The way from place k. The array has by place one more than the moves to the ring, or 0 where they are not known.
+fn way_from(t: &[u32], best: &[usize; 256], a: &[u32; 256], k: usize) -> Way
     requires { ⌜ Formed (now t) ⌝ }
     requires { ⌜ BestPlaces (now t) (now best) ⌝ }
-    ensures { λ a. ⌜ Each (membersIn (now (t .entry))) (ringBit (membersIn (now (t .entry)))) (getD (now (t .entry)) 1 0) a ⌝ }
-{
-    let n = t[1] as usize;
-    let mut a = [0u32; 256];
-    let mut k = 0;
-    while k < n {
-        a[k] = bit(ring::on_ring(t, best, k));
-        k += 1;
-    }
-    a
-}
-
-// By place: 1 for a principal, else 0.
-fn principal_bits(t: &[u32]) -> [u32; 256]
-    requires { ⌜ Formed (now t) ⌝ }
-    ensures { λ a. ⌜ Each (membersIn (now (t .entry))) (principalBit (membersIn (now (t .entry)))) (getD (now (t .entry)) 1 0) a ⌝ }
-{
-    let r = t[0] as usize;
-    let n = t[1] as usize;
-    let mut a = [0u32; 256];
-    let mut k = 0;
-    while k < n {
-        let x = ring::id_at(t, k);
-        a[k] = bit(principal::is_principal(&t[3..], x, r, n));
-        k += 1;
-    }
-    a
-}
-
-// The moves to the ring from the member at place k; the member count if the walk never comes there.
-fn moves_to_ring(t: &[u32], best: &[usize; 256], on: &[u32; 256], k: usize) -> u32
-    requires { ⌜ Formed (now t) ⌝ }
-    requires { ⌜ BestPlaces (now t) (now best) ⌝ }
-    requires { ⌜ Each (membersIn (now t)) (ringBit (membersIn (now t))) (getD (now t) 1 0) (now on) ⌝ }
-    requires { ⌜ k < getD (now t) 1 0 ⌝ }
-    ensures { λ m. ⌜ m ≡ movesToRing (membersIn (now (t .entry))) (getD (ids (membersIn (now (t .entry)))) k 0) ⌝ }
+    requires { ⌜ Begun (now t) (now a) ⌝ }
+    requires { ⌜ (k < getD (now t) 1 0) × (getD (now a) k 0 ≡ 0) ⌝ }
+    ensures { λ w. ⌜ Measured (now (t .entry)) k (w .steps) (w .value) ⌝ }
 {
     let n = t[1] as usize;
     let never = n as u32;
     let mut y = k;
-    let mut moves: u32 = 0;
-    let mut left = n;
-    while 0 < left {
-        if on[y] == 1 {
-            return moves;
-        }
+    let mut c: usize = 0;
+    while c < n {
         y = best[y];
+        c += 1;
         if n <= y {
-            return never;
+            return Way {
+                steps: c,
+                value: never,
+            };
         }
-        moves += 1;
-        left -= 1;
+        let v = a[y];
+        if 0 < v {
+            return Way {
+                steps: c,
+                value: v - 1,
+            };
+        }
     }
-    never
+    Way {
+        steps: 1,
+        value: never,
+    }
 }
 
-// By place: the moves to the ring. Ring membership is tested once a member.
+// The moves of each place of the way from place k are stored.
+fn store_way(t: &[u32], best: &[usize; 256], a: &mut [u32; 256], k: usize, way: Way)
+    requires { ⌜ Formed (now t) ⌝ }
+    requires { ⌜ BestPlaces (now t) (now best) ⌝ }
+    requires { ⌜ Begun (now t) (now a) ⌝ }
+    requires { ⌜ Measured (now t) k (way .steps) (way .value) ⌝ }
+    ensures { λ _. ⌜ Settled (now (t .entry)) k (now (a .exit)) ⌝ }
+{
+    let n = t[1];
+    let v = way.value;
+    let mut y = k;
+    let mut left = way.steps;
+    while 0 < left {
+        a[y] = no_more(v + left as u32, n) + 1;
+        y = best[y];
+        left -= 1;
+    }
+}
+
+// The moves at place k are stored, if they are not known, and with them those of its way.
+fn settle(t: &[u32], best: &[usize; 256], a: &mut [u32; 256], k: usize)
+    requires { ⌜ Formed (now t) ⌝ }
+    requires { ⌜ BestPlaces (now t) (now best) ⌝ }
+    requires { ⌜ Begun (now t) (now a) ⌝ }
+    requires { ⌜ k < getD (now t) 1 0 ⌝ }
+    ensures { λ _. ⌜ Settled (now (t .entry)) k (now (a .exit)) ⌝ }
+{
+    if 0 < a[k] {
+        return;
+    }
+    let way = way_from(t, best, a, k);
+    store_way(t, best, a, k, way);
+}
+
+// By place: the moves to the ring. Each is found once: no way is walked again. At first those of the ring are known.
 fn all_moves(t: &[u32], best: &[usize; 256]) -> [u32; 256]
     requires { ⌜ Formed (now t) ⌝ }
     requires { ⌜ BestPlaces (now t) (now best) ⌝ }
     ensures { λ a. ⌜ Each (membersIn (now (t .entry))) (movesToRing (membersIn (now (t .entry)))) (getD (now (t .entry)) 1 0) a ⌝ }
 {
     let n = t[1] as usize;
-    let on = ring_bits(t, best);
+    let mut found = ring::ring_bits(t, best);
     let mut a = [0u32; 256];
     let mut k = 0;
     while k < n {
-        a[k] = moves_to_ring(t, best, &on, k);
+        settle(t, best, &mut found, k);
+        a[k] = found[k] - 1;
         k += 1;
     }
     a
-}
-
-// How many of the first n numbers are v.
-fn count_of(a: &[u32; 256], n: usize, v: u32) -> usize
-    requires { ⌜ (n ≤ 256) × (n ≤ length (now a)) ⌝ }
-    ensures { λ c. ⌜ (c ≡ count (eqb v) (take n (now (a .entry)))) × (c ≤ n) ⌝ }
-{
-    let mut c: usize = 0;
-    let mut k = 0;
-    while k < n {
-        if v == a[k] {
-            c += 1;
-        }
-        k += 1;
-    }
-    c
 }
 
 // The survey of a well-formed table: all its members. Those on the ring are those with no move to make.
@@ -144,9 +145,9 @@ fn survey_of(t: &[u32]) -> Survey
     let n = t[1] as usize;
     let best = ring::best_places(t);
     let moves = all_moves(t, &best);
-    let principal = principal_bits(t);
-    let on = count_of(&moves, n, 0);
-    let count = count_of(&principal, n, 1);
+    let principal = principal::principal_bits(t);
+    let on = places::count_of(&moves, n, 0);
+    let count = places::count_of(&principal, n, 1);
     let v = audit::verdict_of(t, &best, count);
     let reply = Reply::Report(n as u32, count as u32, on as u32, v);
     Survey {
@@ -183,16 +184,14 @@ pub fn prepare(t: &[u32], room: usize) -> Survey
     declined(1)
 }
 
-// The finding of the member at place k.
-pub fn finding_at(t: &[u32], s: Survey, k: usize) -> Finding
-    requires { ⌜ Surveyed (now t) s × (k < s .members) ⌝ }
+// The finding of the member at place k, of its two numbers in a survey.
+pub fn finding_at(t: &[u32], principal: u32, moves: u32, k: usize) -> Finding
+    requires { ⌜ Formed (now t) × (k < getD (now t) 1 0) × (principal ≡ principalBit (membersIn (now t)) (getD (ids (membersIn (now t))) k 0)) × (moves ≡ movesToRing (membersIn (now t)) (getD (ids (membersIn (now t))) k 0)) ⌝ }
     ensures { λ f. ⌜ view f ≡ findingOf (membersIn (now (t .entry))) (getD (ids (membersIn (now (t .entry)))) k 0) ⌝ }
 {
-    let principal = s.principal;
-    let moves = s.moves;
     Finding {
         id: ring::id_at(t, k),
-        principal: principal[k],
-        moves: moves[k],
+        principal: principal,
+        moves: moves,
     }
 }

@@ -1,4 +1,5 @@
--- Records as findings are written over them: they stay as many, and at the end they are what the model says. Assumes nothing.
+-- Records as findings are written over them: what a survey has for each, that they stay as many, and that at the end they are what the model says.
+-- Assumes nothing.
 use Prim.Native.Nat.{ℕ, zero, suc, _≤_, _<_}
 use mathlib.Core.Path.{_≡_, refl, sym, ap, _∙_}
 use mathlib.Core.List.{List, [], _∷_, _++_, append-assoc}
@@ -10,6 +11,7 @@ use lib.ListN.{length, getD, take, drop, set, length-set, length-map, List·getD
 use lib.Seq.{take-suc, take-length, drop-cons, length-take-le, set-at}
 use Rattle.model.specs.Lists.{overlay}
 use Rattle.model.specs.Table.{Member, membersIn, tableOf, ids, wellFormed}
+use Rattle.model.specs.Ring.{movesToRing}
 use Rattle.model.specs.Findings.{Finding as FindingOf, findingOf, findings}
 use Rattle.model.specs.Answer.{Answer, accepted, answer, afterwards}
 use Rattle.model.specs.Steps.{auditReply}
@@ -17,10 +19,21 @@ use Rattle.model.specs.Refusals.{findingsRefusal}
 use Rattle.model.specs.Calls.{findingsAnswer, findingsAfter}
 use Rattle.laws.specs.Lists.{length-ids}
 use Rattle.laws.specs.Accepted.{none-applies}
+use Rattle.table.specs.Formed.{Formed}
+use Rattle.principal.specs.Marks.{principalBit}
 use Rattle.finding.specs.declared.Finding.{Finding}
 use Rattle.finding.specs.View.{view, views}
-use Rattle.finding.specs.Survey.{toWrite}
+use Rattle.finding.specs.declared.Survey.{Survey}
+use Rattle.finding.specs.Survey.{Surveyed, toWrite}
 use Rattle.findings.specs.Filled.{asRecord, recordAt, filled}
+
+-- what `finding_at` asks of place k and of the two numbers there
+abbrev pub Asked : List ℕ → ℕ → ℕ → ℕ → Type 0
+Asked ws principal moves k = Formed ws × (k < getD ws 1 0) × (principal ≡ principalBit (membersIn ws) (getD (ids (membersIn ws)) k 0)) × (moves ≡ movesToRing (membersIn ws) (getD (ids (membersIn ws)) k 0))
+
+-- a survey has it for each member that it counts
+pub surveyed-at : (ws : List ℕ) (s : Survey) → Surveyed ws s → (k : ℕ) → k < s .members → Asked ws (getD (s .principal) k 0) (getD (s .moves) k 0) k
+surveyed-at ws s e k h = (e .table (omega arith), omega (arith, e .most), e .principals .at k h, e .ways .at k h)
 
 -- a record is known by its view
 pub by-view : (f : Finding) (g : FindingOf) → view f ≡ g → f ≡ asRecord g

@@ -1,4 +1,5 @@
 -- Laws and names that the walks of this crate cite.
 pub mod Tail
 pub mod Filling
+pub mod Slots
 pub mod Rows

@@ -15,6 +15,7 @@ use Rattle.finding.proofs.Finding as T
 use Rattle.finding.proofs.Finding.Laws as T′
 use Rattle.finding.proofs.Survey as U
 use Rattle.finding.proofs.Survey.Laws as U′
+use Rattle.findings.proofs.Slots.{Field}
 
 -- the rows
 abbrev pub R : RattleType
@@ -41,6 +42,16 @@ outTy = sliceTy (tyRef (named 1) mut (pointee (R .written)))
 pub members-fit : (s : Survey) → Is S s (surveyVal s ∷ []) → s .members < 2 ^ 64
 members-fit s g = LL.owed U.the-type U′.the-laws s _ g .1 .0 .1
 
--- the offset of a record fits
-pub offset-fits : {k n : ℕ} → n * 12 < 2 ^ 63 → k < n → k * 12 < 2 ^ 64
-offset-fits room within = omega arith
+-- and what its arrays are known to be
+pub principal-is : (s : Survey) → Is S s (surveyVal s ∷ []) → Field (s .principal)
+principal-is s g = LL.owed U.the-type U′.the-laws s _ g .1 .1 .0
+
+pub moves-is : (s : Survey) → Is S s (surveyVal s ∷ []) → Field (s .moves)
+moves-is s g = LL.owed U.the-type U′.the-laws s _ g .1 .1 .1 .0
+
+-- the offsets of a record and of a word fit
+pub record-fits : {k n : ℕ} → n * 12 < 2 ^ 63 → k < n → k * 12 < 2 ^ 64
+record-fits room within = omega arith
+
+pub word-fits : {k n : ℕ} → n * 12 < 2 ^ 63 → k < n → k * 4 < 2 ^ 64
+word-fits room within = omega arith

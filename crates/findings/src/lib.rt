@@ -18,9 +18,11 @@ fn fill(t: &[u32], s: Survey, out: &mut [Finding])
     ensures { λ _. ⌜ now (out .exit) ≡ filled (membersIn (now (t .entry))) (s .members) (now (out .entry)) ⌝ }
 {
     let n = s.members;
+    let principal = s.principal;
+    let moves = s.moves;
     let mut k: usize = 0;
     while k < n {
-        let f = finding::finding_at(t, s, k);
+        let f = finding::finding_at(t, principal[k], moves[k], k);
         out[k] = f;
         k += 1;
     }

@@ -1,5 +1,5 @@
 -- The loops over fields: what is left, placed behind what was placed, is the whole. Assumes nothing.
-use Prim.Native.Nat.{ℕ, zero, suc, _+_, _-_, _/_, _%_, _≤_, _<_}
+use Prim.Native.Nat.{ℕ, zero, suc, _+_, _*_, _-_, _/_, _%_, _≤_, _<_}
 use mathlib.Core.Path.{_≡_, refl}
 use mathlib.Core.List.{List, [], _∷_, _++_}
 use native.Mathlib.Omega.{arith}
@@ -10,6 +10,10 @@ use Rattle.model.specs.Image.{bytesOf, field, memberField, memberFields, fieldM
 use Rattle.laws.specs.Bytes.{fieldSize, field-length, numbers-length}
 use Rattle.fields.specs.Placed.{placed}
 use Rattle.fields.proofs.Placed.{placed-then}
+
+-- a field has four bytes for each word of a record
+pub four-each : (r : ℕ) → 4 * (r + 4) ≡ fieldSize r
+four-each r = omega arith
 
 -- `write_fields`: one more field
 pub field-turn : (at r n : ℕ) (ws out out' : List ℕ) → 0 < n → recordSize r ≤ length ws → at ≤ length out → out' ≡ placed at (memberField (memberOf r ws)) out → placed (at + fieldSize r) (memberFields (membersOf r (n - 1) (drop (recordSize r) ws))) out' ≡ placed at (memberFields (membersOf r n ws)) out

@@ -83,7 +83,7 @@ fn write_fields(out: &mut [u8], ws: &[u32], r: usize, n: usize)
     ensures { λ _. ⌜ now (out .exit) ≡ placed 10 (memberFields (membersOf r n (now (ws .entry)))) (now (out .entry)) ⌝ }
 {
     let w = r + 4;
-    let b = 16 + 4 * r;
+    let b = 4 * w;
     let mut p = ws;
     let mut at: usize = 10;
     let mut left = n;
@@ -129,8 +129,8 @@ fn read_fields(t: &mut [u32], f: &[u8], r: usize, n: usize)
     requires { ⌜ (r ≤ 8) × (n * fieldSize r ≤ length (now f)) × (3 + n * recordSize r ≤ length (now t)) ⌝ }
     ensures { λ _. ⌜ now (t .exit) ≡ placed 3 (recordsOf (fieldMembers r n (now (f .entry)))) (now (t .entry)) ⌝ }
 {
-    let w = 16 + 4 * r;
     let s = r + 4;
+    let w = 4 * s;
     let mut p = f;
     let mut at: usize = 3;
     let mut left = n;

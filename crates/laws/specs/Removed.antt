@@ -10,8 +10,9 @@ use lib.Dec.{eqb}
 use borrow.Author.Tests.{eqb-false}
 use Rattle.model.specs.Lists.{if_then_else_}
 use Rattle.model.specs.Table.{Member, Table, recordSize, size, ids}
+use Rattle.model.specs.Ring.{named}
 use Rattle.model.specs.Steps.{removed, without}
-use Rattle.laws.specs.Lists.{In, here, there, in-cons, in-nil, Rising, above-in, above-rising, in-above}
+use Rattle.laws.specs.Lists.{In, here, there, in-cons, in-nil, Rising, above-in, above-rising, in-above, in-ids, found}
 use Rattle.laws.specs.Tables.{Formed}
 
 pub removed-from : (n : ℕ) (m : Member) (ms : List Member) → In m (removed n ms) → In m ms
@@ -23,12 +24,7 @@ removed-from n m (k ∷ ms) i = go (eqb (k .id) n) i (removed-from n m ms)
     go false i ih = ⊎-elim (λ e. here e) (λ j. there (ih j)) (in-cons i)
 
 removed-ids : (n x : ℕ) (ms : List Member) → In x (ids (removed n ms)) → In x (ids ms)
-removed-ids n x [] i = i
-removed-ids n x (k ∷ ms) i = go (eqb (k .id) n) i (removed-ids n x ms)
-  where
-    go : (b : Bool) → In x (ids (if b then ms else k ∷ removed n ms)) → (In x (ids (removed n ms)) → In x (ids ms)) → In x (k .id ∷ ids ms)
-    go true i ih = there i
-    go false i ih = ⊎-elim (λ e. here e) (λ j. there (ih j)) (in-cons i)
+removed-ids n x ms i = let w = found (removed n ms) i in (rw (w .1) at (in-ids (removed-from n (named (removed n ms) x) ms (w .0))))
 
 pub removed-length : (n : ℕ) (ms : List Member) → In n (ids ms) → suc (length (removed n ms)) ≡ length ms
 removed-length n [] i = absurd (in-nil i)

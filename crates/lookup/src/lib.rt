@@ -47,6 +47,6 @@ pub fn lookup(t: &[u32], n: u32, k: u32) -> Reply
     if c != 0 {
         return Reply::Declined(c);
     }
-    let at = ring::place(t, n);
+    let at = ring::place(t, 0, n);
     walk(t, at, k)
 }

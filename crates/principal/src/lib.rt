@@ -1,60 +1,131 @@
-// Principals: which identifiers the extended successor lists of records skip. For the crates above.
+// Principals: the members that no extended successor list skips. What a pair of a list skips is a range of places. The ranges are marked as
+// reaches, a number h at place k for the members from k to below h, and then read off once: no member is tested against every pair.
+// For the crates above, which hand over a well-formed table.
 ghost use mathlib.Core.Path.{_≡_};
-ghost use Prim.Native.Nat.{_+_, _*_, _≤_};
-ghost use lib.ListN.{length};
-ghost use Rattle.model.specs.Table.{recordSize, membersOf};
-ghost use Rattle.model.specs.Ring.{skips as skipsOf, principal, principals};
+ghost use mathlib.Core.Bool.{_&&_};
+ghost use Prim.Native.Nat.{suc, _≤_, _<_};
+ghost use lib.Dec.{leb, ltb};
+ghost use lib.ListN.{length, getD};
+ghost use Rattle.model.specs.Lists.{if_then_else_};
+ghost use Rattle.model.specs.Identifier.{between};
+ghost use Rattle.model.specs.Table.{membersIn, ids};
+ghost use Rattle.model.specs.Ring.{nobody, skips, principals};
+ghost use Rattle.table.specs.Formed.{Formed};
+ghost use Rattle.table.specs.Rank.{rank as rankOf};
+ghost use Rattle.places.specs.Each.{Each};
+ghost use Rattle.principal.specs.Marks.{Marks, Skipped, principalBit};
 
-// Do some two neighbours of the list a, then l, skip x?
-fn skips(l: &[u32], x: u32, a: u32) -> bool
-    ensures { λ b. ⌜ b ≡ skipsOf x a (now (l .entry)) ⌝ }
+// The members from place lo to below hi are marked.
+fn cover(reach: &mut [usize; 256], lo: usize, hi: usize)
+    requires { ⌜ (hi ≤ 256) × (length (now reach) ≡ 256) ⌝ }
+    ensures { λ _. ⌜ Marks 256 (λ j. leb lo j && ltb j hi) (now (reach .entry)) (now (reach .exit)) ⌝ }
 {
-    let mut p = l;
-    let mut q = a;
+    if hi <= lo {
+        return;
+    }
+    if hi <= reach[lo] {
+        return;
+    }
+    reach[lo] = hi;
+}
+
+// The members between q and b are marked: lo members are not above q, and hi are below b.
+fn mark_pair(t: &[u32], reach: &mut [usize; 256], q: u32, lo: usize, b: u32, hi: usize)
+    requires { ⌜ Formed (now t) ⌝ }
+    requires { ⌜ (lo ≡ rankOf (ids (membersIn (now t))) (suc q)) × (hi ≡ rankOf (ids (membersIn (now t))) b) × (hi ≤ getD (now t) 1 0) ⌝ }
+    requires { ⌜ length (now reach) ≡ 256 ⌝ }
+    ensures { λ _. ⌜ Marks (getD (now (t .entry)) 1 0) (λ j. between q (getD (ids (membersIn (now (t .entry)))) j 0) b) (now (reach .entry)) (now (reach .exit)) ⌝ }
+{
+    if q < b {
+        cover(reach, lo, hi);
+        return;
+    }
+    let n = t[1] as usize;
+    cover(reach, lo, n);
+    cover(reach, 0, hi);
+}
+
+// How many members are not above b, where k are below it.
+fn rank_past(t: &[u32], k: usize, b: u32) -> usize
+    requires { ⌜ Formed (now t) ⌝ }
+    requires { ⌜ (k ≡ rankOf (ids (membersIn (now t))) b) × (k ≤ getD (now t) 1 0) ⌝ }
+    ensures { λ p. ⌜ p ≡ rankOf (ids (membersIn (now (t .entry)))) (suc b) ⌝ }
+{
+    if table::stands_at(t, k, b) {
+        return k + 1;
+    }
+    k
+}
+
+// The members that the list of the member at place k skips are marked.
+fn mark_list(t: &[u32], reach: &mut [usize; 256], k: usize)
+    requires { ⌜ Formed (now t) ⌝ }
+    requires { ⌜ (k < getD (now t) 1 0) × (length (now reach) ≡ 256) ⌝ }
+    ensures { λ _. ⌜ Marks (getD (now (t .entry)) 1 0) (λ j. skips (getD (ids (membersIn (now (t .entry)))) j 0) (getD (ids (membersIn (now (t .entry)))) k 0) (getD (membersIn (now (t .entry))) k nobody .successors)) (now (reach .entry)) (now (reach .exit)) ⌝ }
+{
+    let r = t[0] as usize;
+    let at = words::offset(r, k);
+    let from = at + 4;
+    let end = from + r;
+    let mut p = &t[from..end];
+    let mut q = t[at];
+    let mut lo = k + 1;
     while 0 < p.len() {
         let b = p[0];
-        if ident::between(q, x, b) {
-            return true;
-        }
+        let hi = table::rank_from(t, lo, b);
+        mark_pair(t, reach, q, lo, b, hi);
+        lo = rank_past(t, hi, b);
         q = b;
         p = &p[1..];
     }
-    false
 }
 
-// Does none of the n records at the front of s skip x?
-pub fn is_principal(s: &[u32], x: u32, r: usize, n: usize) -> bool
-    requires { ⌜ (r ≤ 8) × (n * recordSize r ≤ length (now s)) ⌝ }
-    ensures { λ b. ⌜ b ≡ principal (membersOf r n (now (s .entry))) x ⌝ }
+// The members that some list skips, marked.
+fn skipped(t: &[u32]) -> [usize; 256]
+    requires { ⌜ Formed (now t) ⌝ }
+    ensures { λ a. ⌜ (length a ≡ 256) × Skipped (now (t .entry)) a ⌝ }
 {
-    let w = r + 4;
-    let mut p = s;
-    let mut left = n;
-    while 0 < left {
-        if skips(&p[4..w], x, p[0]) {
-            return false;
-        }
-        p = &p[w..];
-        left -= 1;
+    let n = t[1] as usize;
+    let mut a = [0usize; 256];
+    let mut k = 0;
+    while k < n {
+        mark_list(t, &mut a, k);
+        k += 1;
     }
-    true
+    a
 }
 
-// How many of the n members whose records stand at the front of s are principals.
-pub fn count_principals(s: &[u32], r: usize, n: usize) -> usize
-    requires { ⌜ (r ≤ 8) × (n ≤ 256) × (n * recordSize r ≤ length (now s)) ⌝ }
-    ensures { λ k. ⌜ (k ≡ principals (membersOf r n (now (s .entry)))) × (k ≤ n) ⌝ }
+// The larger of two.
+fn larger(a: usize, b: usize) -> usize
+    ensures { λ m. ⌜ m ≡ (if ltb a b then b else a) ⌝ }
 {
-    let w = r + 4;
-    let mut p = s;
-    let mut left = n;
-    let mut k: usize = 0;
-    while 0 < left {
-        if is_principal(s, p[0], r, n) {
-            k += 1;
-        }
-        p = &p[w..];
-        left -= 1;
+    if a < b { b } else { a }
+}
+
+// By place: 1 for a principal, else 0.
+pub fn principal_bits(t: &[u32]) -> [u32; 256]
+    requires { ⌜ Formed (now t) ⌝ }
+    ensures { λ a. ⌜ Each (membersIn (now (t .entry))) (principalBit (membersIn (now (t .entry)))) (getD (now (t .entry)) 1 0) a ⌝ }
+{
+    let n = t[1] as usize;
+    let reach = skipped(t);
+    let mut a = [0u32; 256];
+    let mut top: usize = 0;
+    let mut k = 0;
+    while k < n {
+        top = larger(top, reach[k]);
+        a[k] = places::bit(top <= k);
+        k += 1;
     }
-    k
+    a
+}
+
+// How many members are principals.
+pub fn count_principals(t: &[u32]) -> usize
+    requires { ⌜ Formed (now t) ⌝ }
+    ensures { λ c. ⌜ (c ≡ principals (membersIn (now (t .entry)))) × (c ≤ getD (now (t .entry)) 1 0) ⌝ }
+{
+    let n = t[1] as usize;
+    let a = principal_bits(t);
+    places::count_of(&a, n, 1)
 }

@@ -1,4 +1,4 @@
--- Members by place: an identifier's place, the member there, its best successor, and one turn of each walk. Assumes nothing.
+-- Members by place: an identifier's place, the member there, its best successor, and one turn of each loop. Assumes nothing.
 use Prim.Native.Nat.{ℕ, zero, suc, _+_, _*_, _-_, _≤_, _<_}
 use mathlib.Core.Path.{_≡_, refl, sym, ap, _∙_}
 use mathlib.Core.List.{List, [], _∷_}
@@ -12,9 +12,9 @@ use borrow.Author.Tests.{eqb-true, eq-eqb, ne-eqb, lt-ltb, le-ltb}
 use lib.Dec.{ltb, eqb}
 use lib.ListN.{length, getD, take, drop, set, drop-of-length-le}
 use lib.Seq.{drop-cons, drop-drop, getD-set-same, getD-set-other}
-use Rattle.model.specs.Lists.{if_then_else_, option, every, any, bit, count, contains}
+use Rattle.model.specs.Lists.{if_then_else_, every, any, bit, count, contains}
 use Rattle.model.specs.Table.{Member, headerSize, recordSize, memberOf, membersIn, ids}
-use Rattle.model.specs.Ring.{live, nobody, named, hasLive, firstLive, bestSuccessor, reaches, onRing}
+use Rattle.model.specs.Ring.{live, nobody, named, hasLive, firstLive, bestSuccessor}
 use Rattle.laws.specs.Lists.{or-false, Rising, rising-true, above-in, above-rising, length-ids}
 use Rattle.laws.specs.Order.{equal?}
 use Rattle.laws.specs.Places.{place-in}
@@ -24,7 +24,8 @@ use Rattle.table.specs.Formed.{Formed}
 use Rattle.table.specs.Rank.{rank}
 use Rattle.table.proofs.Members.{ids-count, members-drop}
 use Rattle.table.proofs.Place.{contains-rank}
-use Rattle.ring.specs.Places.{placeOf, firstPlace, BestPlaces}
+use Rattle.places.proofs.Arrays.{stored-one}
+use Rattle.ring.specs.Places.{placeOf, firstPlace, nextPlace, BestPlaces}
 
 -- Identifiers by place
 
@@ -92,32 +93,6 @@ module _ (ms : List Member) (j : ℕ) where
       go true t = absurd (omega (arith, place-found (ids ms) x t .0, length-ids ms))
       go false t = refl
 
--- Reached from x in one of so many moves: in the first, or in the others
-reaches-move : (ms : List Member) (left z x : ℕ) → 0 < left → reaches ms left z x ≡ option (bestSuccessor ms x) false (λ y. eqb y z || reaches ms (left - 1) z y)
-reaches-move ms zero z x h = absurd (omega arith)
-reaches-move ms (suc left) z x h = let e : suc left - 1 ≡ left = omega arith in rw e
-
-pub reaches-end : (ms : List Member) (left z x : ℕ) → left ≤ 0 → false ≡ reaches ms left z x
-reaches-end ms zero z x h = refl
-reaches-end ms (suc left) z x h = absurd (omega arith)
-
--- Loops over places
-
--- with v stored at place k, one place more is right
-pub stored-one : (h : ℕ → ℕ) (a : List ℕ) (k v : ℕ) → k < length a → ((i : ℕ) → i < k → getD a i 0 ≡ h i) → v ≡ h k → (i : ℕ) → i < k + 1 → getD (set a k v) i 0 ≡ h i
-stored-one h a k v l r e i b = go (equal? i k)
-  where
-    go : (i ≡ k) ⊎ (i ≡ k → ⊥) → getD (set a k v) i 0 ≡ h i
-    go (inl q) = rw (q, getD-set-same a k v 0 l) e
-    go (inr q) = rw (getD-set-other a k i v 0 q) (r i (omega arith))
-
--- the test b of one element counts
-pub counted-one : (g : ℕ → Bool) (l : List ℕ) (k c d : ℕ) (b : Bool) → k < length l → b ≡ g (getD l k 0) → d ≡ c + bit b → d + count g (drop (k + 1) l) ≡ c + count g (drop k l)
-counted-one g l k c d b h t e = rw (add-one, drop-cons l k 0 h, ← t) (omega arith)
-
-pub counted-all : (g : ℕ → Bool) (l : List ℕ) (k : ℕ) → length l ≤ k → count g (drop k l) ≡ 0
-counted-all g l k h = rw (drop-of-length-le l {i = k} h)
-
 -- In a whole table
 
 module _ (ws : List ℕ) where
@@ -133,7 +108,7 @@ module _ (ws : List ℕ) where
   pub member-count : length ms ≡ n
   member-count = members-length (getD ws 0 0) (getD ws 1 0) (drop headerSize ws)
 
-  rises : Formed ws → Rising (ids ms)
+  pub rises : Formed ws → Rising (ids ms)
   rises f = rising-true (ids ms) (f .rises)
 
   -- `place`: the identifier found by halves is at its place, or nowhere
@@ -158,38 +133,22 @@ module _ (ws : List ℕ) where
   first-end [] h = sym member-count
   first-end (x ∷ p) h = absurd (omega arith)
 
-  -- `best_place`: the list of the member at place k, as a part of the table
-  pub list-at : (k at : ℕ) → k < n → at ≡ headerSize + k * recordSize (getD ws 0 0) → take (at + 4 + getD ws 0 0 - (at + 4)) (drop (at + 4) ws) ≡ getD ms k nobody .successors
-  list-at k at h e =
-      let r : ℕ = getD ws 0 0 in
-      let body : List ℕ = drop headerSize ws in
-      let z : at + 4 + r - (at + 4) ≡ r = omega arith in
-      let m : getD ms k nobody ≡ memberOf r (drop (k * recordSize r) body) = ap (λ (l : List Member). getD l 0 nobody) (sym (drop-cons ms k nobody (omega (arith, member-count))) ∙ members-drop r k n body (omega arith) ∙ first-member r (n - k) (drop (k * recordSize r) body) (omega arith)) in
-      rw (m, z, drop-drop (k * recordSize r) headerSize ws, ← e, drop-drop 4 at ws)
-
   -- `best_places`: with the entry at place k stored, one place more is right
   abbrev pub Right : List ℕ → ℕ → Type 0
-  Right a k = (i : ℕ) → i < k → getD a i 0 ≡ firstPlace ms (getD ms i nobody .successors)
+  Right a k = (i : ℕ) → i < k → getD a i 0 ≡ nextPlace ms i
 
-  pub stored : (a : List ℕ) (k j : ℕ) → k < length a → Right a k → j ≡ firstPlace ms (getD ms k nobody .successors) → Right (set a k j) (k + 1)
-  stored a k j h r e = stored-one (λ i. firstPlace ms (getD ms i nobody .successors)) a k j h r e
+  pub stored : (a : List ℕ) (k j : ℕ) → k < length a → Right a k → j ≡ nextPlace ms k → Right (set a k j) (k + 1)
+  stored a k j h r e = stored-one (nextPlace ms) a k j h r e
 
   pub all-stored : (a : List ℕ) (k : ℕ) → Right a k → n ≤ k → BestPlaces ws a
   all-stored a k r h = record { at = λ i l. r i (omega (arith, member-count)) }
 
   -- an array's entry at a member's place
-  pub best-at : (a : List ℕ) → BestPlaces ws a → (k : ℕ) → k < n → getD a k 0 ≡ firstPlace ms (getD ms k nobody .successors)
+  pub best-at : (a : List ℕ) → BestPlaces ws a → (k : ℕ) → k < n → getD a k 0 ≡ nextPlace ms k
   best-at a b k h = b .at k (omega (arith, member-count))
 
-  -- `count_ring`: the test b of one identifier counts
-  pub counted : (g : ℕ → Bool) (k c d : ℕ) (b : Bool) → k < n → b ≡ g (idAt k) → d ≡ c + bit b → d + count g (drop (k + 1) (ids ms)) ≡ c + count g (drop k (ids ms))
-  counted g k c d b h t e = counted-one g (ids ms) k c d b (omega (arith, ids-count ws)) t e
-
-  pub count-end : (g : ℕ → Bool) (k : ℕ) → n ≤ k → count g (drop k (ids ms)) ≡ 0
-  count-end g k h = counted-all g (ids ms) k (omega (arith, ids-count ws))
-
   -- the best successor of the member at place k, by its place j
-  module _ (k j : ℕ) (h : k < n) (e : j ≡ firstPlace ms (getD ms k nobody .successors)) where
+  module _ (k j : ℕ) (h : k < n) (e : j ≡ nextPlace ms k) where
     pub has-live : hasLive ms (getD ms k nobody) ≡ ltb j n
     has-live = go (hasLive ms (getD ms k nobody)) refl
       where
@@ -222,26 +181,6 @@ module _ (ws : List ℕ) where
     pub all-stop : n ≤ j → false ≡ every (hasLive ms) (drop k ms)
     all-stop l = rw (drop-cons ms k nobody (omega (arith, member-count)), has-live, le-ltb j n l)
 
-    -- `on_ring`: one move settles whether the member at place z is reached, or goes on from the next place
-    module _ (f : Formed ws) (z left : ℕ) (zn : z < n) (some-left : 0 < left) where
-      one-move : reaches ms left (idAt z) (idAt k) ≡ option (bestSuccessor ms (idAt k)) false (λ y. eqb y (idAt z) || reaches ms (left - 1) (idAt z) y)
-      one-move = reaches-move ms left (idAt z) (idAt k) some-left
-
-      pub reach-stuck : n ≤ j → false ≡ reaches ms left (idAt z) (idAt k)
-      reach-stuck l = sym (one-move ∙ rw (no-best f l))
-
-      pub reach-there : j ≡ z → true ≡ reaches ms left (idAt z) (idAt k)
-      reach-there q = sym (one-move ∙ rw (best f (omega arith), eq-eqb (idAt j) (idAt z) (ap idAt q)))
-
-      pub reach-on : j < n → (j ≡ z → ⊥) → reaches ms (left - 1) (idAt z) (idAt j) ≡ reaches ms left (idAt z) (idAt k)
-      reach-on l q =
-          let d : idAt j ≡ idAt z → ⊥ = λ (y : idAt j ≡ idAt z). q (same-place (ids ms) j z (rises f) (omega (arith, ids-count ws)) (omega (arith, ids-count ws)) y) in
-          sym (one-move ∙ rw (best f l, ne-eqb (idAt j) (idAt z) d))
-
   -- `all_live`: after the last member nothing is left to test
   pub all-end : (k : ℕ) → n ≤ k → true ≡ every (hasLive ms) (drop k ms)
   all-end k h = rw (drop-of-length-le ms {i = k} (omega (arith, member-count)))
-
-  -- `on_ring`: as many moves as there are members
-  pub reach-start : (x : ℕ) → reaches ms n x x ≡ onRing ms x
-  reach-start x = rw member-count

@@ -1,17 +1,15 @@
 // Starting: the new table of rising identifiers.
 ghost use mathlib.Core.Path.{_≡_};
 ghost use mathlib.Core.Bool.{true};
-ghost use Prim.Native.Nat.{_≤_, _<_};
+ghost use Prim.Native.Nat.{_+_, _≤_, _<_};
 ghost use lib.ListN.{length, getD};
 ghost use Rattle.model.specs.Lists.{rising, overlay};
-ghost use Rattle.model.specs.Table.{size, wordsOf};
+ghost use Rattle.model.specs.Table.{recordSize, recordOf, size, wordsOf};
 ghost use Rattle.model.specs.Ring.{nextUp, nextDown};
 ghost use Rattle.model.specs.New.{newMember, newTable};
 ghost use Rattle.model.specs.Refusals.{newRefusal};
 ghost use Rattle.model.specs.Calls.{newAnswer, newWords};
-ghost use Rattle.member.specs.View.{view};
 ghost use Rattle.reply.specs.Answers.{answerOf};
-use member::Member;
 use reply::Reply;
 
 // Do the identifiers strictly rise?
@@ -79,30 +77,44 @@ fn place_below(xs: &[u32], i: usize) -> usize
     i - 1
 }
 
-// The record of the identifier at place i: its neighbours are the next down and up, round the end.
-fn record_at(xs: &[u32], i: usize, r: usize) -> Member
-    requires { ⌜ (rising (now xs) ≡ true) × (r ≤ 8) × (i < length (now xs)) ⌝ }
-    ensures { λ m. ⌜ view r m ≡ newMember r (now (xs .entry)) (getD (now (xs .entry)) i 0) ⌝ }
+// The first four words of the record of the identifier at place i: itself, the next down, and no candidate.
+fn write_front(part: &mut [u32], xs: &[u32], i: usize)
+    requires { ⌜ (rising (now xs) ≡ true) × (i < length (now xs)) × (4 ≤ length (now part)) ⌝ }
+    ensures { λ _. ⌜ now (part .exit) ≡ overlay (recordOf (newMember 0 (now (xs .entry)) (getD (now (xs .entry)) i 0))) (now (part .entry)) ⌝ }
 {
-    let mut l = [0u32; 8];
+    let below = place_below(xs, i);
+    part[0] = xs[i];
+    part[1] = xs[below];
+    part[2] = 0;
+    part[3] = 0;
+}
+
+// The record of the identifier at place i with the next r up, round the end.
+fn write_round(part: &mut [u32], xs: &[u32], i: usize, r: usize)
+    requires { ⌜ (rising (now xs) ≡ true) × (i < length (now xs)) × (recordSize r ≤ length (now part)) ⌝ }
+    ensures { λ _. ⌜ now (part .exit) ≡ overlay (recordOf (newMember r (now (xs .entry)) (getD (now (xs .entry)) i 0))) (now (part .entry)) ⌝ }
+{
+    write_front(part, xs, i);
     let mut k: usize = 0;
     let mut j = i;
     while k < r {
         j = place_above(xs, j);
-        l[k] = xs[j];
+        part[4 + k] = xs[j];
         k += 1;
-    }
-    let below = place_below(xs, i);
-    Member {
-        id: xs[i],
-        predecessor: xs[below],
-        pending: 0,
-        candidate: 0,
-        successors: l,
     }
 }
 
-// The words of the new table, written; the words behind them stay.
+// The record of the identifier at place i with the next eight up, where none goes round the end.
+fn write_ahead(part: &mut [u32], xs: &[u32], i: usize)
+    requires { ⌜ (rising (now xs) ≡ true) × (i + 8 < length (now xs)) × (recordSize 8 ≤ length (now part)) ⌝ }
+    ensures { λ _. ⌜ now (part .exit) ≡ overlay (recordOf (newMember 8 (now (xs .entry)) (getD (now (xs .entry)) i 0))) (now (part .entry)) ⌝ }
+{
+    write_front(part, xs, i);
+    let above = i + 1;
+    entries::write_eight(part, &xs[above..]);
+}
+
+// The words of the new table, written; the words behind them stay. The entries past r are written over by the next records.
 fn write_table(t: &mut [u32], r: usize, xs: &[u32])
     requires { ⌜ (rising (now xs) ≡ true) × (r ≤ 8) × (length (now xs) ≤ 256) × (size (newTable r (now xs)) ≤ length (now t)) ⌝ }
     ensures { λ _. ⌜ now (t .exit) ≡ overlay (wordsOf (newTable r (now (xs .entry)))) (now (t .entry)) ⌝ }
@@ -112,10 +124,14 @@ fn write_table(t: &mut [u32], r: usize, xs: &[u32])
     t[1] = n as u32;
     t[2] = 0;
     let mut i: usize = 0;
-    while i < n {
-        let m = record_at(xs, i, r);
+    while i + 8 < n {
         let at = words::offset(r, i);
-        words::write_member(&mut t[at..], m, r);
+        write_ahead(&mut t[at..], xs, i);
+        i += 1;
+    }
+    while i < n {
+        let at = words::offset(r, i);
+        write_round(&mut t[at..], xs, i, r);
         i += 1;
     }
 }

@@ -2,15 +2,17 @@
 use Prim.Native.Nat.{ℕ, zero, suc, _+_, _*_, _-_, _≤_, _<_}
 use mathlib.Core.Path.{_≡_, refl, _∙_}
 use mathlib.Core.List.{List, [], _∷_}
-use mathlib.Core.Bool.{Bool, true, false, _&&_, and-true}
+use mathlib.Core.Bool.{Bool, true, false, _&&_, and-true, and-false}
+use mathlib.Core.Logic.{_⊎_, inl, inr}
 use native.Mathlib.Nat.{suc-mul}
 use native.Mathlib.Numerals.{add-one}
 use native.Mathlib.Omega.{arith}
-use borrow.Author.Tests.{leb-true, le-leb, lt-ltb, eq-eqb}
-use lib.Dec.{leb, ltb, leb·zero}
+use borrow.Author.Tests.{leb-true, le-leb, lt-leb, lt-ltb, eq-eqb, ne-eqb}
+use lib.Dec.{leb, ltb, eqb, leb·zero}
 use lib.ListN.{length, getD, take, drop, length-take, length-drop}
 use lib.Seq.{getD-drop}
 use Rattle.laws.specs.Lists.{and-true as both}
+use Rattle.laws.specs.Order.{equal?, less?}
 use Rattle.model.specs.Lists.{every, rising, risingFrom}
 use Rattle.model.specs.Identifier.{space}
 use Rattle.model.specs.Table.{headerSize, recordSize, size, tableOf, memberOf, membersOf, membersIn, ids, formedMember, formed as formedTable, wellFormed}
@@ -93,6 +95,23 @@ tests ws h l lo hi few fits =
     let n : ℕ = getD ws 1 0 in
     let a = all-tests r n (drop headerSize ws) (simp length-drop (omega arith)) (bounded-drop headerSize ws h) in
     rw (members-length r n (drop headerSize ws), le-leb headerSize (length ws) l, le-leb (headerSize + n * recordSize r) (length ws) fits, le-leb 1 r lo, le-leb r 8 hi, le-leb n 256 few, lt-ltb (getD ws 2 0) space (h 2), ← a)
+
+-- `record_ok`: pending and candidate by their sum
+module _ (p c : ℕ) where
+  pub both-zero : p + c ≡ 0 → true ≡ rightPending p c
+  unfolding rightPending
+  both-zero h =
+      let d : c ≡ 0 = omega arith in
+      rw (le-leb p 1 (omega arith), ne-eqb p 1 (λ (z : p ≡ 1). omega arith), eq-eqb c 0 d)
+
+  sum-tests : (p ≡ 1) ⊎ (p ≡ 1 → ⊥) → (1 < p) ⊎ (p ≤ 1) → (p + c ≡ 0 → ⊥) → eqb p 1 ≡ rightPending p c
+  unfolding rightPending
+  sum-tests (inl e) q h = rw (eq-eqb p 1 e, le-leb p 1 (omega arith))
+  sum-tests (inr e) (inl q) h = rw (ne-eqb p 1 e, lt-leb p 1 q)
+  sum-tests (inr e) (inr q) h = rw (ne-eqb p 1 e, ne-eqb c 0 (λ (z : c ≡ 0). h (omega arith)), and-false (leb p 1))
+
+  pub not-both-zero : (p + c ≡ 0 → ⊥) → eqb p 1 ≡ rightPending p c
+  not-both-zero h = sum-tests (equal? p 1) (less? 1 p) h
 
 -- `records_ok`: the test b of the first record settles it, or leaves the others
 module _ (r n lo : ℕ) (ws : List ℕ) (b : Bool) (h : 0 < n) (t : b ≡ (leb lo (getD ws 0 0) && rightPending (getD ws 2 0) (getD ws 3 0))) where

@@ -6,10 +6,11 @@ use native.Mathlib.Nat.{mul-le-mul-right, suc-mul, zero-mul, add-mul, sub-zero, 
 use native.Mathlib.Numerals.{add-four}
 use native.Mathlib.Omega.{arith}
 use lib.ListN.{length, getD, take, drop, length-drop}
-use lib.Seq.{take-take, drop-drop, getD-drop}
+use lib.Seq.{take-take, drop-cons, drop-drop, getD-drop}
 use Rattle.model.specs.Table.{Member, headerSize, recordSize, size, tableOf, memberOf, recordOf, membersOf, membersIn, recordsOf, ids}
 use Rattle.model.specs.Ring.{nobody}
 use Rattle.laws.specs.Lists.{length-ids}
+use Rattle.laws.specs.Parts.{first-member}
 use Rattle.laws.specs.Words.{members-length}
 use Rattle.table.specs.Formed.{Formed}
 
@@ -82,3 +83,14 @@ module _ (ws : List ℕ) where
         let m : suc k * recordSize (getD ws 0 0) ≤ getD ws 1 0 * recordSize (getD ws 0 0) = mul-le-mul-right (recordSize (getD ws 0 0)) h in
         let s = suc-mul k (recordSize (getD ws 0 0)) in
         omega arith
+
+    -- its list, as the part of the table behind its four other words
+    pub list-at : take (at + 4 + getD ws 0 0 - (at + 4)) (drop (at + 4) ws) ≡ getD (membersIn ws) k nobody .successors
+    list-at =
+        let r : ℕ = getD ws 0 0 in
+        let n : ℕ = getD ws 1 0 in
+        let body : List ℕ = drop headerSize ws in
+        let c = members-length r n body in
+        let z : at + 4 + r - (at + 4) ≡ r = omega arith in
+        let m : getD (membersIn ws) k nobody ≡ memberOf r (drop (k * recordSize r) body) = ap (λ (l : List Member). getD l 0 nobody) (sym (drop-cons (membersIn ws) k nobody (omega arith)) ∙ members-drop r k n body (omega arith) ∙ first-member r (n - k) (drop (k * recordSize r) body) (omega arith)) in
+        rw (m, z, drop-drop (k * recordSize r) headerSize ws, ← e, drop-drop 4 at ws)

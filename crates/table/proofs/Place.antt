@@ -3,10 +3,11 @@ use Prim.Native.Nat.{ℕ, zero, suc, _≤_, _<_}
 use mathlib.Core.Path.{_≡_, refl, sym, ap, _∙_}
 use mathlib.Core.List.{List, [], _∷_, _++_}
 use mathlib.Core.Bool.{Bool, true, false, _&&_, _||_, or-false, false≢true}
+use mathlib.Core.Logic.{_⊎_, inl, inr}
 use native.Mathlib.Nat.{le-of-suc-le-suc}
 use native.Mathlib.Omega.{arith}
-use borrow.Author.Tests.{ltb-true, ltb-false, eqb-true, eqb-false, lt-ltb, le-ltb, eq-eqb, ne-eqb}
-use lib.Dec.{ltb, eqb, leb·suc-suc}
+use borrow.Author.Tests.{ltb-true, ltb-false, eqb-true, eqb-false, lt-ltb, le-ltb, le-leb, lt-leb, eq-eqb, ne-eqb}
+use lib.Dec.{ltb, leb, eqb, leb·suc-suc}
 use lib.ListN.{length, getD, take, drop}
 use Rattle.model.specs.Lists.{if_then_else_, contains, rising, risingFrom}
 use Rattle.model.specs.Table.{Member, headerSize, membersIn, ids}
@@ -16,6 +17,8 @@ use Rattle.table.specs.Formed.{Formed}
 use Rattle.table.specs.Rank.{rank}
 use Rattle.laws.specs.Words.{members-length}
 use Rattle.laws.specs.Lists.{and-true as both}
+use Rattle.laws.specs.Order.{less?}
+use Rattle.table.proofs.Members.{ids-count}
 
 -- Rising identifiers
 
@@ -67,6 +70,53 @@ rank-down (y ∷ l) x (suc k) q h = go (ltb y x) (rank-down l x k q (le-of-suc-l
     go : (b : Bool) → rank l x ≤ k → (if b then suc (rank l x) else 0) ≤ suc k
     go true h = omega arith
     go false h = omega arith
+
+-- those below x are those at places below its rank
+pub below-rank : (l : List ℕ) (x k : ℕ) → rising l ≡ true → k < length l → ltb (getD l k 0) x ≡ ltb k (rank l x)
+below-rank l x k e h = go (less? (getD l k 0) x)
+  where
+    go : (getD l k 0 < x) ⊎ (x ≤ getD l k 0) → ltb (getD l k 0) x ≡ ltb k (rank l x)
+    go (inl q) = rw (lt-ltb (getD l k 0) x q, lt-ltb k (rank l x) (rank-up l x k e h q))
+    go (inr q) = rw (le-ltb (getD l k 0) x q, le-ltb k (rank l x) (rank-down l x k q h))
+
+-- and those above q at places from the rank of the number after it on
+pub above-rank : (l : List ℕ) (q k : ℕ) → rising l ≡ true → k < length l → ltb q (getD l k 0) ≡ leb (rank l (suc q)) k
+above-rank l q k e h = go (less? q (getD l k 0))
+  where
+    go : (q < getD l k 0) ⊎ (getD l k 0 ≤ q) → ltb q (getD l k 0) ≡ leb (rank l (suc q)) k
+    go (inl u) = rw (lt-ltb q (getD l k 0) u, le-leb (rank l (suc q)) k (rank-down l (suc q) k u h))
+    go (inr u) = rw (le-ltb q (getD l k 0) u, lt-leb (rank l (suc q)) k (rank-up l (suc q) k e h (omega arith)))
+
+-- the rank of an identifier that stands at place k
+pub rank-here : (l : List ℕ) (k : ℕ) → rising l ≡ true → k < length l → k ≡ rank l (getD l k 0)
+rank-here [] k e h = absurd (omega arith)
+rank-here (y ∷ l) zero e h = rw (le-ltb y y (omega arith))
+rank-here (y ∷ l) (suc k) e h = rw (lt-ltb y (getD l k 0) (rising-above y l k e (le-of-suc-le-suc h))) (ap suc (rank-here l k (rising-tail y l e) (le-of-suc-le-suc h)))
+
+-- the rank of the number after an identifier: one more where it stands, else the same
+none-under : (y : ℕ) (l : List ℕ) → risingFrom y l ≡ true → 0 ≡ rank l (suc y)
+none-under y [] e = refl
+none-under y (z ∷ l) e = rw (le-ltb z (suc y) (ltb-true y z (both (ltb y z) (risingFrom z l) e .0)))
+
+pub rank-past : (l : List ℕ) (k : ℕ) → rising l ≡ true → k < length l → suc k ≡ rank l (suc (getD l k 0))
+rank-past [] k e h = absurd (omega arith)
+rank-past (y ∷ l) zero e h = rw (lt-ltb y (suc y) (omega arith)) (ap suc (none-under y l e))
+rank-past (y ∷ l) (suc k) e h =
+    let b = rising-above y l k e (le-of-suc-le-suc h) in
+    rw (lt-ltb y (suc (getD l k 0)) (omega arith)) (ap suc (rank-past l k (rising-tail y l e) (le-of-suc-le-suc h)))
+
+pub rank-missing : (l : List ℕ) (x : ℕ) → (rank l x < length l → getD l (rank l x) 0 ≡ x → ⊥) → rank l x ≡ rank l (suc x)
+rank-missing [] x h = refl
+rank-missing (y ∷ l) x h = go (ltb y x) refl h (rank-missing l x)
+  where
+    go : (b : Bool) → ltb y x ≡ b → ((if b then suc (rank l x) else 0) < suc (length l) → getD (y ∷ l) (if b then suc (rank l x) else 0) 0 ≡ x → ⊥) → ((rank l x < length l → getD l (rank l x) 0 ≡ x → ⊥) → rank l x ≡ rank l (suc x)) → (if b then suc (rank l x) else 0) ≡ (if ltb y (suc x) then suc (rank l (suc x)) else 0)
+    go true t n i =
+        let b = ltb-true y x t in
+        rw (lt-ltb y (suc x) (omega arith)) (ap suc (i (λ u v. n (omega arith) v)))
+    go false t n i =
+        let b = ltb-false y x t in
+        let d : y ≡ x → ⊥ = λ v. n (omega arith) v in
+        rw (le-ltb y (suc x) (omega arith))
 
 -- an identifier is there if it is at its place
 pub contains-rank : (l : List ℕ) (x : ℕ) → rising l ≡ true → contains l x ≡ (ltb (rank l x) (length l) && eqb (getD l (rank l x) 0) x)
@@ -125,6 +175,21 @@ found ws x k f l e = rw e (live-at (membersIn ws) x (f .rises) l)
 
 pub missing : (ws : List ℕ) (x k : ℕ) → live (membersIn ws) x ≡ false → k ≡ rank (ids (membersIn ws)) x → Gap x (membersIn ws) k
 missing ws x k l e = rw e (gap-at (membersIn ws) x l)
+
+-- the test that x stands at place k
+module _ (ws : List ℕ) (k x : ℕ) where
+  abbrev pub stands : Bool
+  stands = ltb k (getD ws 1 0) && eqb (getD (ids (membersIn ws)) k 0) x
+
+  pub stands-there : stands ≡ true → (k < getD ws 1 0) × (getD (ids (membersIn ws)) k 0 ≡ x)
+  stands-there e = let w = both (ltb k (getD ws 1 0)) (eqb (getD (ids (membersIn ws)) k 0) x) e in (ltb-true k (getD ws 1 0) (w .0), eqb-true (getD (ids (membersIn ws)) k 0) x (w .1))
+
+  pub stands-rank : Formed ws → stands ≡ true → (k ≡ rank (ids (membersIn ws)) x) × (k ≤ getD ws 1 0)
+  stands-rank f e = let w = stands-there e in (rw (← (w .1)) (rank-here (ids (membersIn ws)) k (f .rises) (omega (arith, ids-count ws))), omega arith)
+
+  -- a member stands at its rank
+  pub stands-live : Formed ws → k ≡ rank (ids (membersIn ws)) x → stands ≡ live (membersIn ws) x
+  stands-live f e = sym (contains-rank (ids (membersIn ws)) x (f .rises) ∙ rw (ids-count ws, ← e))
 
 pub named-at : {x k : ℕ} {ms : List Member} → At x ms k → named ms x ≡ getD ms k nobody
 named-at (at-first e) = rw (eq-eqb _ _ e)

@@ -3,7 +3,7 @@
 ghost use mathlib.Core.Path.{_≡_};
 ghost use mathlib.Core.Bool.{true, false, _&&_};
 ghost use Prim.Native.Nat.{_+_, _*_, _≤_, _<_};
-ghost use lib.Dec.{leb};
+ghost use lib.Dec.{leb, ltb, eqb};
 ghost use lib.ListN.{length, getD};
 ghost use Rattle.model.specs.Table.{recordSize, size, membersOf, membersIn, tableOf, ids, wellFormed};
 ghost use Rattle.model.specs.Ring.{live, named, nobody};
@@ -25,13 +25,11 @@ fn record_ok(s: &[u32], lo: usize) -> bool
         return false;
     }
     let p = s[2];
-    if 1 < p {
-        return false;
-    }
-    if p == 1 {
+    let both = p as usize + s[3] as usize;
+    if both == 0 {
         return true;
     }
-    s[3] == 0
+    p == 1
 }
 
 // Are the n records at the front right, by rising identifier?
@@ -89,7 +87,7 @@ pub fn rank(t: &[u32], x: u32) -> usize
     let mut lo: usize = 0;
     let mut hi = n;
     while lo < hi {
-        let mid = lo + (hi - lo) / 2;
+        let mid = (lo + hi) / 2;
         let at = words::offset(r, mid);
         if t[at] < x {
             lo = mid + 1;
@@ -100,19 +98,38 @@ pub fn rank(t: &[u32], x: u32) -> usize
     lo
 }
 
-// Is x a member?
-pub fn is_member(t: &[u32], x: u32) -> bool
+// Does the member x stand at place k?
+pub fn stands_at(t: &[u32], k: usize, x: u32) -> bool
     requires { ⌜ Formed (now t) ⌝ }
-    ensures { λ b. ⌜ b ≡ live (membersIn (now (t .entry))) x ⌝ }
+    ensures { λ b. ⌜ b ≡ (ltb k (getD (now (t .entry)) 1 0) && eqb (getD (ids (membersIn (now (t .entry)))) k 0) x) ⌝ }
 {
     let r = t[0] as usize;
     let n = t[1] as usize;
-    let k = rank(t, x);
     if k < n {
         let at = words::offset(r, k);
         return t[at] == x;
     }
     false
+}
+
+// How many members stand below x: as many as guessed, if x stands there; else by halves.
+pub fn rank_from(t: &[u32], guess: usize, x: u32) -> usize
+    requires { ⌜ Formed (now t) ⌝ }
+    ensures { λ k. ⌜ (k ≡ rankOf (ids (membersIn (now (t .entry)))) x) × (k ≤ getD (now (t .entry)) 1 0) ⌝ }
+{
+    if stands_at(t, guess, x) {
+        return guess;
+    }
+    rank(t, x)
+}
+
+// Is x a member?
+pub fn is_member(t: &[u32], x: u32) -> bool
+    requires { ⌜ Formed (now t) ⌝ }
+    ensures { λ b. ⌜ b ≡ live (membersIn (now (t .entry))) x ⌝ }
+{
+    let k = rank(t, x);
+    stands_at(t, k, x)
 }
 
 // The member of index k.

@@ -11,10 +11,7 @@ use borrow.Author.Tests.{eqb-true, eqb-false, eq-eqb, not-true}
 use Rattle.model.specs.Lists.{count}
 use Rattle.laws.specs.Order.{Inside, Outside, inside-ends, equal?, onward, passed, passed-from-end, Before, isBefore, before-true, before-false, false-before, before-trans, before-irrefl, before-asym}
 use Rattle.laws.specs.Lists.{In, count-le, count-lt, and-true}
-
-abbrev pub iterate : (ℕ → ℕ) → ℕ → ℕ → ℕ
-iterate f zero x = x
-iterate f (suc k) x = iterate f k (f x)
+use Rattle.laws.specs.Iterate.{iterate, iterate-move}
 
 -- x comes back to itself by one or more moves
 pub record Returns (f : ℕ → ℕ) (x : ℕ) : Type 0 where
@@ -34,10 +31,6 @@ pub data Arrival (f : ℕ → ℕ) (test : ℕ → Bool) : ℕ → ℕ → Type 
 data Way (f : ℕ → ℕ) (p y : ℕ) : ℕ → Type 0 where
   stop : {x : ℕ} → x ≡ y → Way f p y x
   step : {x : ℕ} → (x ≡ p → ⊥) → Way f p y (f x) → Way f p y x
-
-iterate-move : (f : ℕ → ℕ) (k x : ℕ) → iterate f k (f x) ≡ f (iterate f k x)
-iterate-move f zero x = refl
-iterate-move f (suc k) x = iterate-move f k (f x)
 
 pub returns-next : {f : ℕ → ℕ} {x : ℕ} → Returns f x → Returns f (f x)
 returns-next {f} {x} o = record { more = o .more; back = iterate-move f (o .more) (f x) ∙ ap f (o .back) }

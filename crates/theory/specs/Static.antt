@@ -13,11 +13,12 @@ use Rattle.model.specs.Table.{Member, Table, tableOf, membersIn, ids, wellForme
 use Rattle.model.specs.Ring.{live, named, principal, sound, bestSuccessor, moved, onRing, firstAbove, nextUp}
 use Rattle.laws.specs.Order.{Inside, Outside, below, beyond, rest, inside?, less?}
 use Rattle.laws.specs.Lists.{In, here, there, in-cons, in-nil, count-le, select-in, in-select, select-nodup, select-count, select-rising, Rising, above-in, above-rising, rising-nodup, live-in}
+use Rattle.laws.specs.Iterate.{iterate}
 use Rattle.laws.specs.Tables.{Formed, Sound, wellFormed-facts, sound-facts}
 use Rattle.theory.specs.Claim.{ComesOn, InRingOrder, ring, appendages, Holds}
 use Rattle.theory.specs.Entries.{Clear, principal-clear, of-named, in-ring-order, firstLive-in, firstLive-some, firstLive-outside}
 use Rattle.theory.specs.Walks.{onRing-back, back-onRing}
-use Rattle.theory.specs.Orbit.{iterate, Returns, returns-next, Closed, Arrival, arrived, move, arrives, returns, ring-next}
+use Rattle.theory.specs.Orbit.{Returns, returns-next, Closed, Arrival, arrived, move, arrives, returns, ring-next}
 
 -- The next up of rising numbers: the one to which the way from x passes none of them
 

@@ -5,7 +5,8 @@ use borrow.Author.Needs.{needs}
 use Rattle.model.specs.Table.{membersIn}
 use Rattle.model.specs.Ring.{principals, ringMembers}
 use Rattle.ring.proofs.Laws.{member-count}
-use Rattle.finding.proofs.Surveys.{counted-principals, counted-ring}
+use Rattle.principal.proofs.Pairs.{counted-principals}
+use Rattle.finding.proofs.Surveys.{counted-ring}
 use Rattle.finding.proofs.survey_of.Statement.{statement}
 use Rattle.finding.proofs.survey_of.Tie as tie
 

@@ -9,20 +9,19 @@ use Rattle.laws.specs.Bytes.{fieldSize}
 use Rattle.laws.specs.Parts.{part-from, one-of}
 use Rattle.fields.proofs.Placed.{placed-none}
 use Rattle.fields.specs.Placed.{placed}
-use Rattle.judge.proofs.Tests.{sized}
-use Rattle.image.proofs.Turns.{record-turn}
+use Rattle.image.proofs.Turns.{four-each, record-turn}
 use borrow.Author.Needs.{needs}
 use Rattle.image.proofs.read_fields.Statement.{statement}
 use Rattle.image.proofs.read_fields.Tie as tie
 
 abbrev Inv-loop : tie.InvT-loop
-Inv-loop t₀ f r n w s p₀ at₀ left₀ t p at left = (left * fieldSize r ≤ length p) × (at + left * recordSize r ≤ length t) × (length t ≡ length t₀) × (placed at (recordsOf (fieldMembers r left p)) t ≡ placed 3 (recordsOf (fieldMembers r n f)) t₀)
+Inv-loop t₀ f r n s w p₀ at₀ left₀ t p at left = (left * fieldSize r ≤ length p) × (at + left * recordSize r ≤ length t) × (length t ≡ length t₀) × (placed at (recordsOf (fieldMembers r left p)) t ≡ placed 3 (recordsOf (fieldMembers r n f)) t₀)
 
 abbrev μ-loop : tie.MeasureT-loop
-μ-loop t₀ f r n w s p₀ at₀ left₀ t p at left = left
+μ-loop t₀ f r n s w p₀ at₀ left₀ t p at left = left
 
 -- in a turn there is one of n
-one-left : (c : tie.In-loop Inv-loop μ-loop) → 16 + 4 * c .before .before .before .before .args .r ≤ length (c .before .loop .p .now)
+one-left : (c : tie.In-loop Inv-loop μ-loop) → 4 * (c .before .before .before .before .args .r + 4) ≤ length (c .before .loop .p .now)
 one-left c = omega (arith, one-of (c .before .loop .left) (fieldSize (c .before .before .before .before .args .r)) (c .loop-test .taken))
 
 -- and room for it
@@ -45,9 +44,9 @@ loop-again c =
     let r = i .before .before .before .before .args .r in
     let wrote = c .before .before .before .read-field in
     let n : length (wrote .last .0) ≡ length (k .t) = c .before .before .t .given in
-    let l : (k .left - 1) * fieldSize r ≤ length (k .p .now) - (16 + 4 * r) = omega (arith, one-of (k .left) (fieldSize r) (i .loop-test .taken)) in
-    let u : k .at + ((r + 4)) + (k .left - 1) * recordSize r ≤ length (wrote .last .0) = omega (arith, one-of (k .left) (recordSize r) (i .loop-test .taken)) in
-    (rw (part-from, length-drop) l, u, n ∙ k .inv .2, rw (part-from, sized) (record-turn (k .at) r (k .left) (k .p .now) (k .t) (wrote .last .0) (i .loop-test .taken) (omega arith) (wrote .ensures) ∙ k .inv .3))
+    let l : (k .left - 1) * fieldSize r ≤ length (k .p .now) - 4 * (r + 4) = omega (arith, one-of (k .left) (fieldSize r) (i .loop-test .taken)) in
+    let u : k .at + (r + 4) + (k .left - 1) * recordSize r ≤ length (wrote .last .0) = omega (arith, one-of (k .left) (recordSize r) (i .loop-test .taken)) in
+    (rw (part-from, length-drop) l, u, n ∙ k .inv .2, rw (part-from, four-each) (record-turn (k .at) r (k .left) (k .p .now) (k .t) (wrote .last .0) (i .loop-test .taken) (omega arith) (wrote .ensures) ∙ k .inv .3))
 
 returns : tie.Need-returns Inv-loop μ-loop
 returns c =
@@ -58,4 +57,4 @@ returns c =
 
 pub read-fields-spec : {M : Type 1} → statement M
 read-fields-spec =
-    tie.close (tie.spec Inv-loop μ-loop (λ c. search needs) (λ c. search needs) (λ c. search needs) (λ c. search needs) read-field-requires sub-p part-p-start (λ c. search needs) (λ c. search needs) (λ c. search needs) (λ c. search needs) loop-again (λ c. search needs) returns)
+    tie.close (tie.spec Inv-loop μ-loop (λ c. search needs) (λ c. search needs) (λ c. search needs) read-field-requires sub-p part-p-start (λ c. search needs) (λ c. search needs) (λ c. search needs) (λ c. search needs) loop-again (λ c. search needs) returns)

@@ -9,8 +9,7 @@ use Rattle.laws.specs.Bytes.{fieldSize}
 use Rattle.laws.specs.Parts.{part-from, one-of}
 use Rattle.fields.proofs.Placed.{placed-none}
 use Rattle.fields.specs.Placed.{placed}
-use Rattle.judge.proofs.Tests.{sized}
-use Rattle.image.proofs.Turns.{field-turn}
+use Rattle.image.proofs.Turns.{four-each, field-turn}
 use borrow.Author.Needs.{needs}
 use Rattle.image.proofs.write_fields.Statement.{statement}
 use Rattle.image.proofs.write_fields.Tie as tie
@@ -46,8 +45,8 @@ loop-again c =
     let wrote = c .before .before .before .write-field in
     let n : length (wrote .last .0) ≡ length (k .out) = c .before .before .out .given in
     let l : (k .left - 1) * recordSize r ≤ length (k .p .now) - (r + 4) = omega (arith, one-of (k .left) (recordSize r) (i .loop-test .taken)) in
-    let u : k .at + (16 + 4 * r) + (k .left - 1) * fieldSize r ≤ length (wrote .last .0) = omega (arith, one-of (k .left) (fieldSize r) (i .loop-test .taken)) in
-    (rw (part-from, length-drop) l, u, n ∙ k .inv .2, rw (part-from, sized) (field-turn (k .at) r (k .left) (k .p .now) (k .out) (wrote .last .0) (i .loop-test .taken) (one-left i) (omega arith) (wrote .ensures) ∙ k .inv .3))
+    let u : k .at + 4 * (r + 4) + (k .left - 1) * fieldSize r ≤ length (wrote .last .0) = omega (arith, one-of (k .left) (fieldSize r) (i .loop-test .taken)) in
+    (rw (part-from, length-drop) l, u, n ∙ k .inv .2, rw (part-from, four-each) (field-turn (k .at) r (k .left) (k .p .now) (k .out) (wrote .last .0) (i .loop-test .taken) (one-left i) (omega arith) (wrote .ensures) ∙ k .inv .3))
 
 returns : tie.Need-returns Inv-loop μ-loop
 returns c =
@@ -58,4 +57,4 @@ returns c =
 
 pub write-fields-spec : {M : Type 1} → statement M
 write-fields-spec =
-    tie.close (tie.spec Inv-loop μ-loop (λ c. search needs) (λ c. search needs) (λ c. search needs) (λ c. search needs) write-field-requires (λ c. search needs) sub-p part-p-start (λ c. search needs) (λ c. search needs) (λ c. search needs) (λ c. search needs) loop-again (λ c. search needs) returns)
+    tie.close (tie.spec Inv-loop μ-loop (λ c. search needs) (λ c. search needs) (λ c. search needs) write-field-requires (λ c. search needs) sub-p part-p-start (λ c. search needs) (λ c. search needs) (λ c. search needs) (λ c. search needs) loop-again (λ c. search needs) returns)

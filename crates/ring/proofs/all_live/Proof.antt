@@ -6,8 +6,8 @@ use borrow.Author.Needs.{needs}
 use lib.ListN.{drop, getD}
 use Rattle.model.specs.Lists.{every}
 use Rattle.model.specs.Table.{membersIn}
-use Rattle.model.specs.Ring.{hasLive, nobody}
-use Rattle.ring.specs.Places.{firstPlace}
+use Rattle.model.specs.Ring.{hasLive}
+use Rattle.ring.specs.Places.{nextPlace}
 use Rattle.ring.proofs.Laws.{best-at, best-most, all-on, all-stop, all-end}
 use Rattle.ring.proofs.all_live.Statement.{statement}
 use Rattle.ring.proofs.all_live.Tie as tie
@@ -22,7 +22,7 @@ abbrev μ-loop : tie.MeasureT-loop
 abbrev start : tie.In-loop Inv-loop μ-loop → tie.Start Inv-loop μ-loop
 start i = i .before .before .before
 
-entry : (i : tie.In-loop Inv-loop μ-loop) → let ms = membersIn (start i .args .t .now) in getD (start i .args .best .now) (i .before .loop .k) 0 ≡ firstPlace ms (getD ms (i .before .loop .k) nobody .successors)
+entry : (i : tie.In-loop Inv-loop μ-loop) → let ms = membersIn (start i .args .t .now) in getD (start i .args .best .now) (i .before .loop .k) 0 ≡ nextPlace ms (i .before .loop .k)
 entry i = best-at (start i .args .t .now) (start i .args .best .now) (start i .pre .1) (i .before .loop .k) (i .loop-test .taken)
 
 returns : tie.Need-returns Inv-loop μ-loop

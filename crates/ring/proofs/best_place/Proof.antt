@@ -3,8 +3,7 @@ use Prim.Native.Nat.{_+_, _≤_}
 use native.Mathlib.Omega.{arith}
 use borrow.Author.Needs.{needs}
 use lib.ListN.{length, getD}
-use Rattle.table.proofs.Members.{record-fits}
-use Rattle.ring.proofs.Laws.{list-at}
+use Rattle.table.proofs.Members.{list-at, record-fits}
 use Rattle.ring.proofs.best_place.Statement.{statement}
 use Rattle.ring.proofs.best_place.Tie as tie
 
@@ -28,4 +27,4 @@ returns c =
 
 pub best-place-spec : {M : Type 1} → statement M
 best-place-spec =
-    tie.close (tie.spec (λ c. search needs) (λ c. search needs) (λ c κs. search needs) (λ c. search needs) (λ c. search needs) (λ c. search needs) (λ c. search needs) (λ c. search needs) part-first-place-end (λ c κs. search needs) returns)
+    tie.close (tie.spec (λ c. search needs) (λ c. search needs) (λ c κs. search needs) (λ c. search needs) (λ c. search needs) (λ c. search needs) (λ c. search needs) (λ c. search needs) (λ c. search needs) part-first-place-end (λ c κs. search needs) returns)

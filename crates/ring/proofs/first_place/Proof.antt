@@ -10,10 +10,10 @@ use Rattle.ring.proofs.first_place.Statement.{statement}
 use Rattle.ring.proofs.first_place.Tie as tie
 
 abbrev Inv-loop : tie.InvT-loop
-Inv-loop t l n p₀ p = firstPlace (membersIn t) p ≡ firstPlace (membersIn t) l
+Inv-loop t guess l n p₀ p = firstPlace (membersIn t) p ≡ firstPlace (membersIn t) l
 
 abbrev μ-loop : tie.MeasureT-loop
-μ-loop t l n p₀ p = length p
+μ-loop t guess l n p₀ p = length p
 
 abbrev start : tie.At-loop Inv-loop μ-loop → tie.Start Inv-loop μ-loop
 start l = l .before .before .before .before

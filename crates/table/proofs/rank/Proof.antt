@@ -21,7 +21,7 @@ abbrev start : tie.After-offset Inv-loop μ-loop → tie.Start Inv-loop μ-loop
 start o = o .before .before .before .before .before .before
 
 abbrev mid : tie.After-offset Inv-loop μ-loop → ℕ
-mid o = let l = o .before .before .loop in l .lo + (l .hi - l .lo) / 2
+mid o = let l = o .before .before .loop in (l .lo + l .hi) / 2
 
 mid-within : (o : tie.After-offset Inv-loop μ-loop) → mid o < getD (start o .args .t .now) 1 0
 mid-within o = omega arith
@@ -65,4 +65,4 @@ returns c = (omega arith, omega arith)
 
 pub rank-spec : {M : Type 1} → statement M
 rank-spec =
-    tie.close (tie.spec Inv-loop μ-loop (λ c. search needs) (λ c. search needs) (λ c. search needs) (λ c. search needs) loop-holds (λ c. search needs) (λ c. search needs) (λ c κs. search needs) (λ c. search needs) shared-slice-read-if1 (λ c. search needs) (λ c. search needs) loop-again (λ c. search needs) loop-again-2 returns)
+    tie.close (tie.spec Inv-loop μ-loop (λ c. search needs) (λ c. search needs) (λ c. search needs) (λ c. search needs) loop-holds (λ c. search needs) (λ c κs. search needs) (λ c. search needs) shared-slice-read-if1 (λ c. search needs) (λ c. search needs) loop-again (λ c. search needs) loop-again-2 returns)

@@ -1,0 +1,2 @@
+-- Laws that the proof of this crate cites.
+pub mod Stored
