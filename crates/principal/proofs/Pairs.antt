@@ -2,7 +2,7 @@
 use Prim.Native.Nat.{ℕ, zero, suc, _+_, _≤_, _<_}
 use mathlib.Core.Path.{_≡_, refl, sym, ap, _∙_}
 use mathlib.Core.List.{List, [], _∷_}
-use mathlib.Core.Bool.{Bool, true, false, not, _&&_, _||_, or-false, and-true, false≢true}
+use mathlib.Core.Bool.{Bool, true, false, not, _&&_, _||_, or-false, or-assoc, and-true, false≢true}
 use native.Mathlib.Nat.{le-of-suc-le-suc}
 use native.Mathlib.Numerals.{add-one}
 use native.Mathlib.Omega.{arith}
@@ -23,7 +23,7 @@ use Rattle.table.proofs.Place.{below-rank, above-rank, rank-past, rank-missing,
 use Rattle.places.specs.Each.{Each}
 use Rattle.places.proofs.Arrays.{each-counted, bit-one}
 use Rattle.principal.specs.Marks.{covered, Marks, Skipped, principalBit}
-use Rattle.principal.proofs.Reaches.{or-assoc, none-covered}
+use Rattle.principal.proofs.Reaches.{none-covered}
 
 -- the extended list of m skips x
 abbrev skipsIt : ℕ → Member → Bool

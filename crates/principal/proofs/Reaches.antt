@@ -2,7 +2,7 @@
 use Prim.Native.Nat.{ℕ, zero, suc, _+_, _≤_, _<_}
 use mathlib.Core.Path.{_≡_, refl, sym, ap, _∙_}
 use mathlib.Core.List.{List, [], _∷_}
-use mathlib.Core.Bool.{Bool, true, false, not, _&&_, _||_, or-false}
+use mathlib.Core.Bool.{Bool, true, false, not, _&&_, _||_, and-false, or-false, or-true, or-assoc}
 use mathlib.Core.Logic.{_⊎_, inl, inr}
 use native.Mathlib.Nat.{le-of-suc-le-suc}
 use native.Mathlib.Numerals.{add-one}
@@ -13,10 +13,6 @@ use lib.ListN.{length, getD, take, set, replicate, length-set}
 use Rattle.model.specs.Lists.{if_then_else_, any}
 use Rattle.laws.specs.Order.{less?}
 use Rattle.principal.specs.Marks.{covered, Marks}
-
-pub or-assoc : (a b c : Bool) → ((a || b) || c) ≡ (a || (b || c))
-or-assoc true b c = refl
-or-assoc false b c = refl
 
 -- A range from lo to below hi: the first i reaches tell of it just if it starts among them
 
@@ -43,11 +39,7 @@ module _ (j hi : ℕ) where
   within [] i lo u h q = absurd (omega arith)
   within (x ∷ a) zero lo u h q = absurd (omega arith)
   within (x ∷ a) (suc i) zero u h q = rw (lt-ltb j x q)
-  within (x ∷ a) (suc i) (suc lo) u h q = rw (within a i lo (le-of-suc-le-suc u) (le-of-suc-le-suc h) q) (true-last (ltb j x))
-    where
-      true-last : (b : Bool) → (b || true) ≡ true
-      true-last true = refl
-      true-last false = refl
+  within (x ∷ a) (suc i) (suc lo) u h q = rw (within a i lo (le-of-suc-le-suc u) (le-of-suc-le-suc h) q) (or-true (ltb j x))
 
   there : (a : List ℕ) (lo : ℕ) → lo < length a → hi ≤ getD a lo 0 → covered a j ≡ (covered a j || (leb lo j && ltb j hi))
   there a lo h q = go (less? j lo) (less? j hi)
@@ -63,10 +55,6 @@ module _ (j hi : ℕ) where
       go : (j < hi) ⊎ (hi ≤ j) → covered a j ≡ (covered a j || (leb lo j && ltb j hi))
       go (inl v) = rw (lt-leb lo j (omega arith), or-false)
       go (inr v) = rw (le-ltb j hi v, and-false (leb lo j), or-false)
-        where
-          and-false : (b : Bool) → (b && false) ≡ false
-          and-false true = refl
-          and-false false = refl
 
 -- `cover`: each of its ends
 module _ (a : List ℕ) (lo hi : ℕ) where
