@@ -11,7 +11,7 @@ use Rattle.model.specs.Lists.{if_then_else_}
 use Rattle.model.specs.Identifier.{between}
 use Rattle.model.specs.Table.{recordSize, size, tableOf, membersIn, wellFormed}
 use Rattle.model.specs.Ring.{live, named, successor}
-use Rattle.model.specs.Answer.{Answer, declined, answer, afterwards}
+use Rattle.model.specs.Answer.{Answer, accepted, declined, answer, afterwards}
 use Rattle.model.specs.Steps.{without}
 use Rattle.model.specs.Refusals.{full, cutsOff, tooFewPrincipals, joinRefusal, memberRefusal, leaveRefusal}
 use Rattle.laws.specs.Lists.{or-false}
@@ -19,6 +19,10 @@ use Rattle.laws.specs.Lists.{or-false}
 pub declined-answer : (k : ℕ) (a : Answer) → (k ≡ 0 → ⊥) → declined k ≡ answer k a
 declined-answer zero a h = absurd (h refl)
 declined-answer (suc k) a h = refl
+
+pub answer-number : (k : ℕ) (vs : List ℕ) → answer k (accepted vs) .number ≡ k
+answer-number zero vs = refl
+answer-number (suc k) vs = refl
 
 pub unchanged : {A : Type 0} (k : ℕ) (new old : List A) → (k ≡ 0 → ⊥) → old ≡ afterwards k new old
 unchanged zero new old h = absurd (h refl)
@@ -47,6 +51,10 @@ join-accepted ws j p h =
 pub member-accepted : (ws : List ℕ) (n : ℕ) → memberRefusal ws n ≡ 0 → live (membersIn ws) n ≡ true
 unfolding memberRefusal
 member-accepted ws n h = not-false _ (none-applies 2 (not (live (membersIn ws) n)) 0 (none-applies 0 (not (wellFormed ws)) _ h .1) .0)
+
+pub member-accepts : (ws : List ℕ) (n : ℕ) → wellFormed ws ≡ true → live (membersIn ws) n ≡ true → memberRefusal ws n ≡ 0
+unfolding memberRefusal
+member-accepts ws n h l = rw (h, l)
 
 pub record MayLeave (ws : List ℕ) (n : ℕ) : Type 0 where
   pub is-member : live (membersIn ws) n ≡ true

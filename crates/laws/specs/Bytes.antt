@@ -3,7 +3,7 @@ use mathlib.Core.Path.{_≡_, refl, sym, ap, ap₂, _∙_}
 use mathlib.Core.Logic.{⊎-elim}
 use mathlib.Core.Bool.{true, false, false≢true}
 use mathlib.Core.List.{List, [], _∷_, _++_, append-nil, append-assoc}
-use Prim.Native.Nat.{ℕ, zero, suc, _+_, _*_, _/_, _%_, _^_, _≤_, _<_}
+use Prim.Native.Nat.{ℕ, zero, suc, _+_, _*_, _-_, _/_, _%_, _^_, _≤_, _<_}
 use native.Mathlib.Nat.{pow-suc, pow-succ', mul-assoc}
 use native.Mathlib.Omega.{arith}
 use lib.Dec.{eqb}
@@ -15,6 +15,7 @@ use Rattle.model.specs.Identifier.{space}
 use Rattle.model.specs.Table.{Member, Table}
 use Rattle.model.specs.Image.{bytesOf, numberFrom, numberAt, words4, field, memberField, memberFields, imageOf, fieldHead, memberLength, numbersAt, fieldMember, fieldMembers, tableIn}
 use Rattle.laws.specs.Lists.{In, here, there, in-cons, in-nil, and-true, true-and}
+use Rattle.laws.specs.Parts.{drop-take, part-of-part}
 use Rattle.laws.specs.Words.{Lengths}
 use Rattle.laws.specs.Tables.{FormedMember, Formed}
 
@@ -84,6 +85,10 @@ number-below k at bs h e =
     let b = below-from 0 1 part (bytes-take k (drop at bs) (bytes-drop at bs h)) (omega arith) in
     omega (arith, rw n at b)
 
+-- a number that ends among the first n bytes
+pub number-part : (at k n : ℕ) (bs : List ℕ) → at + k ≤ n → numberAt (take n bs) at k ≡ numberAt bs at k
+number-part at k n bs h = ap (numberFrom 0) (part-of-part at k n bs h)
+
 -- Numbers of four bytes each
 
 pub words-length : (l : List ℕ) → length (words4 l) ≡ 4 * length l
@@ -103,6 +108,10 @@ numbers-written zero bs h e = refl
 numbers-written (suc n) bs h e =
     let q : 4 * suc n ≡ 4 + 4 * n = omega arith in
     ap₂ (λ (a b : List ℕ). a ++ b) (said-at 4 0 bs h (omega arith)) (numbers-written n (drop 4 bs) (bytes-drop 4 bs h) (rw length-drop (omega arith))) ∙ rw q (sym (take-add 4 (4 * n) bs))
+
+numbers-part : (n k : ℕ) (bs : List ℕ) → 4 * n ≤ k → numbersAt n (take k bs) ≡ numbersAt n bs
+numbers-part zero k bs h = refl
+numbers-part (suc n) k bs h = ap₂ (λ (z : ℕ) (l : List ℕ). z ∷ l) (number-part 0 4 k bs (omega arith)) (ap (numbersAt n) (drop-take 4 k bs) ∙ numbers-part n (k - 4) (drop 4 bs) (omega arith))
 
 -- A member and its field
 
@@ -132,7 +141,23 @@ contents-read r m rest f = λ i. record {
     list : numbersAt r (words4 (m .successors) ++ rest) ≡ m .successors
     list = ap (λ (k : ℕ). numbersAt k (words4 (m .successors) ++ rest)) (sym (f .list-length)) ∙ numbers-read (m .successors) rest (f .entries-small)
 
--- n elements from a place on, and the k behind them
+contents-part : (r k : ℕ) (bs : List ℕ) → memberLength r ≤ k → fieldMember r (take k bs) ≡ fieldMember r bs
+contents-part r k bs h = λ i. record {
+  id = number-part 0 4 k bs (omega arith) i;
+  predecessor = number-part 4 4 k bs (omega arith) i;
+  pending = number-part 8 1 k bs (omega arith) i;
+  candidate = number-part 9 4 k bs (omega arith) i;
+  successors = list i;
+}
+  where
+    list : numbersAt r (drop 13 (take k bs)) ≡ numbersAt r (drop 13 bs)
+    list = ap (numbersAt r) (drop-take 13 k bs) ∙ numbers-part r (k - 13) (drop 13 bs) (omega arith)
+
+-- the part of its bytes says the same member
+pub field-part : (r : ℕ) (bs : List ℕ) → fieldMember r (drop fieldHead (take (fieldSize r) bs)) ≡ fieldMember r (drop fieldHead bs)
+field-part r bs = ap (fieldMember r) (drop-take fieldHead (fieldSize r) bs) ∙ contents-part r (fieldSize r - fieldHead) (drop fieldHead bs) (omega arith)
+
+-- n elements from a place on, and the k after them
 pub cut : (at n k : ℕ) (l a b : List ℕ) → a ≡ take n (drop at l) → b ≡ take k (drop (at + n) l) → a ++ b ≡ take (n + k) (drop at l)
 cut at n k l a b p q = rw (p, q, ← drop-drop n at l) (sym (take-add n k (drop at l)))
 

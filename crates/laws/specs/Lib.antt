@@ -9,4 +9,5 @@ pub mod Tables
 pub mod Removed
 pub mod Parts
 pub mod Accepted
+pub mod Stabilize
 pub mod Bytes

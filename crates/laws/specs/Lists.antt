@@ -21,6 +21,12 @@ and-true false b h = absurd (false≢true h)
 pub true-and : {a b : Bool} → a ≡ true → b ≡ true → (a && b) ≡ true
 true-and h k = rw (h, k)
 
+pub and-pairs : (a b c d : Bool) → (a && b && (c && d)) ≡ (a && c && (b && d))
+and-pairs true true c d = refl
+and-pairs true false true d = refl
+and-pairs true false false d = refl
+and-pairs false b c d = refl
+
 pub or-true : (a b : Bool) → (a || b) ≡ true → (a ≡ true) ⊎ (b ≡ true)
 or-true true b h = inl refl
 or-true false b h = inr h

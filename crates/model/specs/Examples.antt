@@ -1,16 +1,16 @@
 -- Document 01, "Table of settled examples": one statement over a list of cases, computed.
 use Prim.Native.Nat.{ℕ}
 use mathlib.Core.Path.{_≡_, refl}
-use mathlib.Core.List.{List, [], _∷_, map}
-use lib.ListN.{replicate}
+use mathlib.Core.List.{List, [], _∷_, _++_, map}
+use lib.ListN.{length, replicate}
 use Rattle.model.specs.Lists.{bit}
-use Rattle.model.specs.Identifier.{space, between, after}
-use Rattle.model.specs.Table.{wellFormed, formed, formedMember}
-use Rattle.model.specs.Ring.{sound, candidateInside}
-use Rattle.model.specs.Steps.{dropHead}
+use Rattle.model.specs.Identifier.{between, after}
+use Rattle.model.specs.Table.{membersIn, wellFormed, formed, formedMember}
+use Rattle.model.specs.Ring.{named, sound, candidateInside}
+use Rattle.model.specs.Steps.{stabilize, stabilizeReply, nextStep}
 use Rattle.model.specs.New.{newTable}
-use Rattle.model.specs.Refusals.{newRefusal, noNewTable, leaveRefusal, cutsOff, tooFewPrincipals}
-use Rattle.model.specs.Calls.{newAnswer, newWords, leaveAnswer}
+use Rattle.model.specs.Refusals.{newRefusal, noNewTable, memberRefusal, leaveRefusal, cutsOff, tooFewPrincipals}
+use Rattle.model.specs.Calls.{stabilizeAnswer, stabilizeWords, newAnswer, newWords, leaveAnswer}
 
 -- a case: what the definitions compute, and what document 01 says
 pub record Case : Type 0 where
@@ -21,9 +21,13 @@ infix 6 _gives_
 abbrev pub _gives_ : List ℕ → List ℕ → Case
 c gives e = record { computed = c; expected = e }
 
--- the list of a record after its dead head was dropped
-abbrev pub afterDrop : List ℕ → List ℕ
-afterDrop l = dropHead space (record { id = 0; predecessor = 0; pending = 0; candidate = 0; successors = l }) .successors
+-- a slice with a lone member, 50, whose list is l: no other identifier is a member's
+abbrev pub lone : List ℕ → List ℕ
+lone l = length l ∷ 1 ∷ 0 ∷ 50 ∷ 50 ∷ 0 ∷ 0 ∷ l
+
+-- what its stabilize step replies, and its list afterwards
+abbrev pub stepped : List ℕ → List ℕ
+stepped l = stabilizeAnswer (lone l) 50 .values ++ named (membersIn (stabilizeWords (lone l) 50)) 50 .successors
 
 -- a slice of 30 words, and the table of (h) in it
 abbrev pub blank : List ℕ
@@ -32,7 +36,7 @@ blank = replicate 30 0
 abbrev pub tableH : List ℕ
 tableH = newWords blank 2 (10 ∷ 20 ∷ 30 ∷ [])
 
--- (a) to (j), in order; 1 is yes and sound, 0 is no
+-- (a) to (j), in order; 1 is yes and sound, 0 is no; (f) and (g) by a stabilize step that finds the head dead: 0 is "again", then the list
 abbrev pub cases : List Case
 cases =
     (bit (between 20 25 30) ∷ [] gives 1 ∷ []) ∷
@@ -40,12 +44,12 @@ cases =
     (bit (between 10 10 10) ∷ [] gives 0 ∷ []) ∷
     (bit (between 10 11 10) ∷ [] gives 1 ∷ []) ∷
     (bit (between 10 20 20) ∷ [] gives 0 ∷ []) ∷
-    (afterDrop (100 ∷ 4294967295 ∷ []) gives 4294967295 ∷ 0 ∷ []) ∷
-    (afterDrop (7 ∷ []) gives 8 ∷ []) ∷
+    (stepped (100 ∷ 4294967295 ∷ []) gives 0 ∷ 4294967295 ∷ 0 ∷ []) ∷
+    (stepped (7 ∷ []) gives 0 ∷ 8 ∷ []) ∷
     (bit (sound (newTable 2 (10 ∷ 20 ∷ 30 ∷ []))) ∷ [] gives 1 ∷ []) ∷
     (newAnswer blank 2 (10 ∷ 20 ∷ []) .number ∷ [] gives 11 ∷ []) ∷
     (leaveAnswer tableH 10 .number ∷ [] gives 7 ∷ []) ∷ []
 
 pub settled : map (λ c. c .computed) cases ≡ map (λ c. c .expected) cases
-unfolding between after sound candidateInside newAnswer newWords newRefusal noNewTable leaveAnswer leaveRefusal cutsOff tooFewPrincipals wellFormed formed formedMember
+unfolding between after sound candidateInside stabilize stabilizeReply nextStep stabilizeAnswer stabilizeWords memberRefusal newAnswer newWords newRefusal noNewTable leaveAnswer leaveRefusal cutsOff tooFewPrincipals wellFormed formed formedMember
 settled = refl

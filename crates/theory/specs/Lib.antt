@@ -7,8 +7,11 @@ pub mod Static
 pub mod Keep
 pub mod Steps
 pub mod Runs
+pub mod Again
+pub mod Losses
 pub mod New
 pub mod Lookup
+pub mod Owners
 pub mod Moves
 pub mod Images
 pub mod Demand3

@@ -1,16 +1,26 @@
--- The moves to the ring that the audit tells: on a sound table they lead to the first place on the ring, and are at most as many as there
--- are members outside it.
+-- The moves to the ring that the audit tells of a member, on every table, sound or not: the fewest that lead onto the ring where some do, and the
+-- member count exactly where none do. On a sound table they are at most as many as there are members outside the ring.
 use mathlib.Core.Path.{_≡_, refl, sym, _∙_}
+use mathlib.Core.Logic.{_⊎_, inl, inr}
 use mathlib.Core.Bool.{Bool, true, false, true≢false}
 use mathlib.Core.List.{List}
 use mathlib.Core.Option.{Option, some, none}
 use Prim.Native.Nat.{ℕ, zero, suc, _+_, _≤_, _<_}
 use native.Mathlib.Omega.{arith}
 use lib.ListN.{length}
-use Rattle.model.specs.Table.{Member, membersIn, ids}
+use Rattle.model.specs.Table.{Member, membersIn}
 use Rattle.model.specs.Ring.{live, bestSuccessor, moved, onRing, movesFrom, movesToRing}
-use Rattle.laws.specs.Lists.{count-not, length-ids}
+use Rattle.laws.specs.Lists.{count-less, length-ids, live-in}
+use Rattle.laws.specs.Order.{less?}
 use Rattle.theory.specs.Claim.{appendages, Holds}
+use Rattle.theory.specs.Walks.{sooner}
+
+-- some number of moves from x leads onto the ring
+pub record LeadsOn (ms : List Member) (x : ℕ) : Type 0 where
+  pub moves : ℕ
+  pub place : ℕ
+  pub leads : moved ms moves x ≡ some place
+  pub on : onRing ms place ≡ true
 
 -- i moves from x lead onto the ring, and fewer do not
 pub record First (ms : List Member) (x i : ℕ) : Type 0 where
@@ -19,58 +29,101 @@ pub record First (ms : List Member) (x i : ℕ) : Type 0 where
   pub on : onRing ms place ≡ true
   pub off : (k y : ℕ) → k < i → moved ms k x ≡ some y → onRing ms y ≡ false
 
+-- what m tells of x: the fewest moves that lead onto the ring, and fewer than there are members; or the member count, and no moves lead there
+pub data Told (ms : List Member) (x m : ℕ) : Type 0 where
+  fewest : First ms x m → m < length ms → Told ms x m
+  never : m ≡ length ms → (LeadsOn ms x → ⊥) → Told ms x m
+
 module _ (ms : List Member) where
-  -- what movesFrom tells, where some j moves lead onto the ring and so many places are looked at
-  record Told (fuel k j x : ℕ) : Type 0 where
-    moves : ℕ
-    few : moves ≤ j
-    told : movesFrom ms fuel k x ≡ k + moves
-    first : First ms x moves
+  -- what movesFrom tells after k moves, where so many places are looked at
+  data Looked (fuel k x : ℕ) : Type 0 where
+    comes : (i : ℕ) → i < fuel → movesFrom ms fuel k x ≡ k + i → First ms x i → Looked fuel k x
+    passes : movesFrom ms fuel k x ≡ length ms → ((i y : ℕ) → i < fuel → moved ms i x ≡ some y → onRing ms y ≡ false) → Looked fuel k x
 
-  -- on the ring already
-  told-here : (fuel k j x : ℕ) → onRing ms x ≡ true → Told (suc fuel) k j x
-  told-here fuel k j x e = record { moves = 0; few = omega arith; told = rw e (omega arith); first = record { place = x; leads = refl; on = e; off = λ i y h q. absurd (omega arith) } }
+  -- the ring is at x
+  look-here : (fuel k x : ℕ) → onRing ms x ≡ true → Looked (suc fuel) k x
+  look-here fuel k x e = comes 0 (omega arith) (rw e (omega arith)) (record { place = x; leads = refl; on = e; off = λ i y h q. absurd (omega arith) })
 
-  -- one move before it
-  told-next : (fuel k j x y : ℕ) → onRing ms x ≡ false → bestSuccessor ms x ≡ some y → Told fuel (suc k) j y → Told (suc fuel) k (suc j) x
-  told-next fuel k j x y e b t = record { moves = suc (t .moves); few = omega arith; told = rw (e, b) (omega (arith, t .told)); first = record { place = t .first .place; leads = rw b (t .first .leads); on = t .first .on; off = off } }
+  -- no move can be made from x
+  look-stuck : (fuel k x : ℕ) → onRing ms x ≡ false → bestSuccessor ms x ≡ none → Looked (suc fuel) k x
+  look-stuck fuel k x e b = passes (rw (e, b)) off
     where
-      off : (i z : ℕ) → i < suc (t .moves) → moved ms i x ≡ some z → onRing ms z ≡ false
+      off : (i z : ℕ) → i < suc fuel → moved ms i x ≡ some z → onRing ms z ≡ false
       off zero z h q = let u : x ≡ z = cc in rw u at e
-      off (suc i) z h q = t .first .off i z (omega arith) (rw b at q)
+      off (suc i) z h q = let u : _≡_ {A = ℕ} 0 1 = cc (rw b at q) in absurd (omega arith)
 
-  told : (fuel k j x place : ℕ) → j < fuel → moved ms j x ≡ some place → onRing ms place ≡ true → Told fuel k j x
-  told zero k j x place h e o = absurd (omega arith)
-  told (suc fuel) k j x place h e o = go (onRing ms x) refl j h e (bestSuccessor ms x) refl (λ i y. told fuel (suc k) i y place)
+  -- one move goes on from x to y
+  look-on : (fuel k x y : ℕ) → onRing ms x ≡ false → bestSuccessor ms x ≡ some y → Looked fuel (suc k) y → Looked (suc fuel) k x
+  look-on fuel k x y e b (comes i few told f) = comes (suc i) (omega arith) (rw (e, b) (omega (arith, told))) (record { place = f .place; leads = rw b (f .leads); on = f .on; off = off })
     where
-      go : (t : Bool) → onRing ms x ≡ t → (j : ℕ) → j < suc fuel → moved ms j x ≡ some place → (b : Option ℕ) → bestSuccessor ms x ≡ b → ((i y : ℕ) → i < fuel → moved ms i y ≡ some place → onRing ms place ≡ true → Told fuel (suc k) i y) → Told (suc fuel) k j x
-      go true t j h e b f ih = told-here fuel k j x t
-      go false t zero h e b f ih = let u : x ≡ place = cc in absurd (true≢false (sym o ∙ rw u at t))
-      go false t (suc j) h e none f ih = let u : _≡_ {A = ℕ} 0 1 = cc (rw f at e) in absurd (omega arith)
-      go false t (suc j) h e (some y) f ih = told-next fuel k j x y t f (ih j y (omega arith) (rw f at e) o)
+      off : (j z : ℕ) → j < suc i → moved ms j x ≡ some z → onRing ms z ≡ false
+      off zero z h q = let u : x ≡ z = cc in rw u at e
+      off (suc j) z h q = f .off j z (omega arith) (rw b at q)
+  look-on fuel k x y e b (passes told g) = passes (rw (e, b) told) off
+    where
+      off : (j z : ℕ) → j < suc fuel → moved ms j x ≡ some z → onRing ms z ≡ false
+      off zero z h q = let u : x ≡ z = cc in rw u at e
+      off (suc j) z h q = g j z (omega arith) (rw b at q)
 
--- On every slice of which demand 3 tells what holds
+  look : (fuel k x : ℕ) → Looked fuel k x
+  look zero k x = passes refl (λ i y h q. absurd (omega arith))
+  look (suc fuel) k x = go (onRing ms x) refl (bestSuccessor ms x) refl (look fuel (suc k))
+    where
+      go : (t : Bool) → onRing ms x ≡ t → (b : Option ℕ) → bestSuccessor ms x ≡ b → ((y : ℕ) → Looked fuel (suc k) y) → Looked (suc fuel) k x
+      go true t b f ih = look-here fuel k x t
+      go false t none f ih = look-stuck fuel k x t f
+      go false t (some y) f ih = look-on fuel k x y t f (ih y)
+
+  -- the member count is places enough: who comes onto the ring does so in fewer moves
+  pub moves-told : (x : ℕ) → live ms x ≡ true → Told ms x (movesToRing ms x)
+  moves-told x l = go (look (length ms) 0 x)
+    where
+      go : Looked (length ms) 0 x → Told ms x (movesToRing ms x)
+      go (comes i few told f) = let e : movesToRing ms x ≡ i = omega (arith, told) in rw e (fewest f few)
+      go (passes told g) = never told (λ c. let s = sooner ms x (c .moves) (live-in ms x l) (c .leads) (c .on) in true≢false (sym (s .on) ∙ g (s .moves) (s .place) (s .few) (s .leads)))
+
+  -- The same, said apart
+
+  -- where some number of moves leads onto the ring, the fewest are told
+  pub moves-fewest : (x : ℕ) → live ms x ≡ true → LeadsOn ms x → First ms x (movesToRing ms x)
+  moves-fewest x l c = go (moves-told x l)
+    where
+      go : {m : ℕ} → Told ms x m → First ms x m
+      go (fewest f few) = f
+      go (never e n) = absurd (n c)
+
+  -- the member count is told exactly where none does
+  pub moves-never : (x : ℕ) → live ms x ≡ true → (movesToRing ms x ≡ length ms → LeadsOn ms x → ⊥) × ((LeadsOn ms x → ⊥) → movesToRing ms x ≡ length ms)
+  moves-never x l = (λ e. none-leads e (moves-told x l), λ n. count-told n (moves-told x l))
+    where
+      none-leads : {m : ℕ} → m ≡ length ms → Told ms x m → LeadsOn ms x → ⊥
+      none-leads e (fewest f few) c = omega arith
+      none-leads e (never q n) c = n c
+
+      count-told : {m : ℕ} → (LeadsOn ms x → ⊥) → Told ms x m → m ≡ length ms
+      count-told {m} n (fewest f few) = absurd (n (record { moves = m; place = f .place; leads = f .leads; on = f .on }))
+      count-told n (never q k) = q
+
+  -- 0 is told exactly on the ring
+  pub moves-zero : (x : ℕ) → live ms x ≡ true → (onRing ms x ≡ true → movesToRing ms x ≡ 0) × (movesToRing ms x ≡ 0 → onRing ms x ≡ true)
+  moves-zero x l = (λ o. zero-of (movesToRing ms x) (moves-fewest x l (record { moves = 0; place = x; leads = refl; on = o })) o, λ e. on-of e (moves-told x l))
+    where
+      zero-of : (i : ℕ) → First ms x i → onRing ms x ≡ true → i ≡ 0
+      zero-of zero g o = refl
+      zero-of (suc i) g o = absurd (true≢false (sym o ∙ g .off 0 x (omega arith) refl))
+
+      on-of : {m : ℕ} → m ≡ 0 → Told ms x m → onRing ms x ≡ true
+      on-of e (fewest f few) = let p = rw e at (f .leads) in let u : f .place ≡ x = cc p in rw u at (f .on)
+      on-of e (never q n) = absurd (omega (arith, count-less (λ y. false) (live-in ms x l) refl, length-ids ms))
+
+-- On every slice of which demand 3 tells what holds, they are few: at most as many as there are members outside the ring
 
 pub moves-first : (ws : List ℕ) → Holds ws → (x : ℕ) → live (membersIn ws) x ≡ true → First (membersIn ws) x (movesToRing (membersIn ws) x) × (movesToRing (membersIn ws) x ≤ appendages (membersIn ws))
-moves-first ws h x l =
-    let ms = membersIn ws in
-    let c = h .comes-on x l in
-    let n = count-not (onRing ms) (ids ms) in
-    let t = told ms (length ms) 0 (c .moves) x (c .place) (omega (arith, length-ids ms, h .ring-size, c .few)) (c .leads) (c .on) in
-    let e : movesToRing ms x ≡ t .moves = omega (arith, t .told) in
-    (rw e (t .first), omega (arith, t .few, c .few))
-
--- they are 0 exactly on the ring
-pub moves-zero : (ws : List ℕ) → Holds ws → (x : ℕ) → live (membersIn ws) x ≡ true → (onRing (membersIn ws) x ≡ true → movesToRing (membersIn ws) x ≡ 0) × (movesToRing (membersIn ws) x ≡ 0 → onRing (membersIn ws) x ≡ true)
-moves-zero ws h x l = (λ o. zero-of (movesToRing (membersIn ws) x) f o, λ e. on-of (movesToRing (membersIn ws) x) f e)
+moves-first ws h x l = (f, go (less? (appendages (membersIn ws)) (movesToRing (membersIn ws) x)))
   where
     f : First (membersIn ws) x (movesToRing (membersIn ws) x)
-    f = moves-first ws h x l .0
+    f = let c = h .comes-on x l in moves-fewest (membersIn ws) x l (record { moves = c .moves; place = c .place; leads = c .leads; on = c .on })
 
-    zero-of : (i : ℕ) → First (membersIn ws) x i → onRing (membersIn ws) x ≡ true → i ≡ 0
-    zero-of zero g o = refl
-    zero-of (suc i) g o = absurd (true≢false (sym o ∙ g .off 0 x (omega arith) refl))
-
-    on-of : (i : ℕ) → First (membersIn ws) x i → i ≡ 0 → onRing (membersIn ws) x ≡ true
-    on-of zero g e = let u : g .place ≡ x = cc (g .leads) in rw u at (g .on)
-    on-of (suc i) g e = absurd (omega arith)
+    go : (appendages (membersIn ws) < movesToRing (membersIn ws) x) ⊎ (movesToRing (membersIn ws) x ≤ appendages (membersIn ws)) → movesToRing (membersIn ws) x ≤ appendages (membersIn ws)
+    go (inr k) = k
+    go (inl k) = let c = h .comes-on x l in absurd (true≢false (sym (c .on) ∙ f .off (c .moves) (c .place) (omega (arith, c .few)) (c .leads)))

@@ -11,13 +11,13 @@ use Rattle.model.specs.Lists.{every}
 use Rattle.model.specs.Identifier.{space}
 use Rattle.model.specs.Table.{Member, Table, headerSize, recordSize, size, tableOf, membersIn, wellFormed}
 use Rattle.model.specs.Ring.{named, sound}
-use Rattle.model.specs.Answer.{answer, accepted, afterwards}
+use Rattle.model.specs.Answer.{afterwards}
 use Rattle.model.specs.Steps.{joiner, joined, stabilize, stabilized, replaced, rectifyIn, rectified, without}
 use Rattle.model.specs.Refusals.{joinRefusal, memberRefusal, leaveRefusal}
 use Rattle.model.specs.Calls.{written, writtenFreed, joinWords, stabilizeWords, rectifyWords, failAnswer, failWords, leaveAnswer, leaveWords}
 use Rattle.model.specs.Run.{Call, Join, Leave, Fail, Stabilize, Rectify, Lookup, Audit, numbersOf, callAnswer, callWords, run, grantedCall, granted}
 use Rattle.laws.specs.Lists.{and-true, implied, length-ids, live-in}
-use Rattle.laws.specs.Accepted.{join-accepted, member-accepted, MayLeave, leave-accepted, has-room}
+use Rattle.laws.specs.Accepted.{answer-number, join-accepted, member-accepted, MayLeave, leave-accepted, has-room}
 use Rattle.laws.specs.Words.{written-table, writtenFreed-table}
 use Rattle.laws.specs.Tables.{wellFormed-facts, facts-wellFormed, sound-facts, facts-sound, formed-lists, written-formed, writtenFreed-formed}
 use Rattle.laws.specs.Removed.{removed-size}
@@ -71,12 +71,17 @@ module _ (ws : List ℕ) (g : Good ws) where
           let grown = more-size (tableOf ws .r) _ (length (membersIn ws)) (inserted-length (joiner (membersIn ws) j p) (membersIn ws)) in
           written-good (joined j p (tableOf ws)) ws (joined-kept space (tableOf ws) k j p hj (a .new) (a .by) (a .inside) (room .0)) (omega (arith, fits ws g))
 
-  stabilize-good : (n : ℕ) → Good (stabilizeWords ws n)
+  pub stabilize-good : (n : ℕ) → Good (stabilizeWords ws n)
   unfolding stabilizeWords
   stabilize-good n = afterwards-good (memberRefusal ws n) (written (stabilized space n (tableOf ws)) ws) ws go g
     where
       go : memberRefusal ws n ≡ 0 → Good (written (stabilized space n (tableOf ws)) ws)
       go e = written-good (stabilized space n (tableOf ws)) ws (stabilized-kept space (tableOf ws) k n (member-accepted ws n e)) (replaced-size (stabilize space (membersIn ws) (named (membersIn ws) n)))
+
+  -- the table that an accepted step leaves
+  pub stabilize-table : (n : ℕ) → memberRefusal ws n ≡ 0 → tableOf (stabilizeWords ws n) ≡ stabilized space n (tableOf ws)
+  unfolding stabilizeWords
+  stabilize-table n e = rw e (written-table (stabilized space n (tableOf ws)) ws (formed-lists space _ (stabilized-kept space (tableOf ws) k n (member-accepted ws n e) .formed)))
 
   rectify-good : (n q : ℕ) → q < space → Good (rectifyWords ws n q)
   unfolding rectifyWords
@@ -94,16 +99,11 @@ module _ (ws : List ℕ) (g : Good ws) where
   leave-good n = afterwards-good (leaveRefusal ws n) (writtenFreed (without n (tableOf ws)) ws) ws (λ e. without-good n (leave-accepted ws n e)) g
 
   -- a loss that a withdrawal would have been granted
-  fail-good : (n : ℕ) → (memberRefusal ws n ≡ 0 → leaveRefusal ws n ≡ 0) → Good (failWords ws n)
+  pub fail-good : (n : ℕ) → (memberRefusal ws n ≡ 0 → leaveRefusal ws n ≡ 0) → Good (failWords ws n)
   unfolding failWords
   fail-good n grant = afterwards-good (memberRefusal ws n) (writtenFreed (without n (tableOf ws)) ws) ws (λ e. without-good n (leave-accepted ws n (grant e))) g
 
 -- the grant, said of the refusals
-
-answer-number : (k : ℕ) (vs : List ℕ) → answer k (accepted vs) .number ≡ k
-answer-number zero vs = refl
-answer-number (suc k) vs = refl
-
 granted-fail : (ws : List ℕ) (n : ℕ) → grantedCall ws (Fail n) ≡ true → memberRefusal ws n ≡ 0 → leaveRefusal ws n ≡ 0
 unfolding grantedCall callAnswer failAnswer leaveAnswer
 granted-fail ws n h e = sym (answer-number (leaveRefusal ws n) _) ∙ eqb-true _ 0 (implied h (eq-eqb _ 0 (answer-number (memberRefusal ws n) _ ∙ e)))

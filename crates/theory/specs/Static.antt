@@ -82,12 +82,12 @@ module _ (w : ℕ) (T : Table) (fo : Formed w T) (so : Sound T) where
           (omega (arith, select-count (principal ms) members, so .enough)))
 
   -- the function is the move of each member; it leads to a member, and passes no principal
-  best-is : {x : ℕ} → In x members → bestSuccessor ms x ≡ some (best ms x)
+  pub best-is : {x : ℕ} → In x members → bestSuccessor ms x ≡ some (best ms x)
   best-is {x} i =
       let s = firstLive-some ms (named ms x .successors) (of-named (λ y l. any (live ms) l ≡ true) ms (so .live-entry) i) in
       rw (s .1)
 
-  closed : Closed members (best ms)
+  pub closed : Closed members (best ms)
   closed x i = firstLive-in ms (named ms x .successors) (best-is i) .0
 
   none-passes : (p : ℕ) → In p members → principal ms p ≡ true → (x : ℕ) → In x members → Outside x p (best ms x)
@@ -97,7 +97,7 @@ module _ (w : ℕ) (T : Table) (fo : Formed w T) (so : Sound T) where
   moved-first : (k : ℕ) {x : ℕ} → In x members → moved ms (suc k) x ≡ moved ms k (best ms x)
   moved-first k i = ap (λ (o : Option ℕ). option o none (λ y. moved ms k y)) (best-is i)
 
-  moved-iterate : (k x : ℕ) → In x members → moved ms k x ≡ some (iterate (best ms) k x)
+  pub moved-iterate : (k x : ℕ) → In x members → moved ms k x ≡ some (iterate (best ms) k x)
   moved-iterate zero x i = refl
   moved-iterate (suc k) x i = moved-first k i ∙ moved-iterate k (best ms x) (closed x i)
 
@@ -119,22 +119,23 @@ module _ (w : ℕ) (T : Table) (fo : Formed w T) (so : Sound T) where
   pub principal-onRing : (p : ℕ) → In p members → principal ms p ≡ true → onRing ms p ≡ true
   principal-onRing p i h = returns-onRing i (returns members (best ms) p i closed (none-passes p i h))
 
-  -- the move from a ring member leads to the next of them
-  pub best-next : (x : ℕ) → In x members → onRing ms x ≡ true → bestSuccessor ms x ≡ some (nextUp (ring ms) x)
-  best-next x i h = best-is i ∙ ap some (sym (next-up x (best ms x) (ring ms) (select-rising (onRing ms) members (fo .ids-rising)) (in-select (onRing ms) (closed x i) (returns-onRing (closed x i) (returns-next o))) out))
+  -- the move from a ring member passes no ring member
+  pub ring-clear : (x z : ℕ) → In x members → onRing ms x ≡ true → In z members → onRing ms z ≡ true → Outside x z (best ms x)
+  ring-clear x z i h j k = go (inside? x z (best ms x))
     where
-      o : Returns (best ms) x
-      o = onRing-returns i h
+      go : Inside x z (best ms x) ⊎ Outside x z (best ms x) → Outside x z (best ms x)
+      go (inr r) = r
+      go (inl b) = let p = a-principal in absurd (ring-next members (best ms) (p .0) (p .1) closed (none-passes (p .0) (p .1) (p .2)) x z i j (onRing-returns i h) (onRing-returns j k) b)
 
+  -- and leads to the next of them
+  pub best-onRing : (x : ℕ) → In x members → onRing ms x ≡ true → onRing ms (best ms x) ≡ true
+  best-onRing x i h = returns-onRing (closed x i) (returns-next (onRing-returns i h))
+
+  pub best-next : (x : ℕ) → In x members → onRing ms x ≡ true → bestSuccessor ms x ≡ some (nextUp (ring ms) x)
+  best-next x i h = best-is i ∙ ap some (sym (next-up x (best ms x) (ring ms) (select-rising (onRing ms) members (fo .ids-rising)) (in-select (onRing ms) (closed x i) (best-onRing x i h)) out))
+    where
       out : (z : ℕ) → In z (ring ms) → Outside x z (best ms x)
-      out z j = go (inside? x z (best ms x))
-        where
-          k : In z members × (onRing ms z ≡ true)
-          k = select-in (onRing ms) members j
-
-          go : Inside x z (best ms x) ⊎ Outside x z (best ms x) → Outside x z (best ms x)
-          go (inr r) = r
-          go (inl b) = let p = a-principal in absurd (ring-next members (best ms) (p .0) (p .1) closed (none-passes (p .0) (p .1) (p .2)) x z i (k .0) o (onRing-returns (k .0) (k .1)) b)
+      out z j = let k = select-in (onRing ms) members j in ring-clear x z i h (k .0) (k .1)
 
   -- every member comes onto the ring
   arrival-comes : {n x : ℕ} → In x members → Arrival (best ms) (onRing ms) n x → ComesOn ms n x

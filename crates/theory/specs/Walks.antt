@@ -1,11 +1,11 @@
 -- Walks by moves from member to member, on every table: who comes back does so in as many moves as there are members, so ring membership
--- as computed is document 01's.
+-- as computed is document 01's; and who comes onto the ring does so in fewer.
 use mathlib.Core.Path.{_≡_, refl}
 use mathlib.Core.Logic.{_⊎_, inl, inr}
 use mathlib.Core.Bool.{Bool, true, false, _||_, false≢true}
 use mathlib.Core.List.{List, [], _∷_}
 use mathlib.Core.Option.{Option, some, none}
-use Prim.Native.Nat.{ℕ, zero, suc, _≤_}
+use Prim.Native.Nat.{ℕ, zero, suc, _≤_, _<_}
 use native.Mathlib.Omega.{arith}
 use lib.Dec.{eqb}
 use lib.ListN.{length}
@@ -13,7 +13,7 @@ use borrow.Author.Tests.{eqb-true, eq-eqb}
 use Rattle.model.specs.Lists.{option}
 use Rattle.model.specs.Table.{Member, ids}
 use Rattle.model.specs.Ring.{named, bestSuccessor, moved, reaches, onRing}
-use Rattle.laws.specs.Lists.{In, in-cons, in-nil, in?, NoDup, pigeonhole, true-or, length-ids}
+use Rattle.laws.specs.Lists.{In, in-cons, in-nil, in?, NoDup, pigeonhole, count-less, true-or, length-ids}
 use Rattle.theory.specs.Claim.{ComesBack, RingAsComputed}
 use Rattle.theory.specs.Entries.{firstLive-in}
 
@@ -113,6 +113,54 @@ module _ (ms : List Member) where
 
   pub onRing-back : (x : ℕ) → onRing ms x ≡ true → ComesBack ms x
   onRing-back x h = let w = reaches-moved (length ms) x x h in record { more = w .0; back = w .1 }
+
+  -- Who comes onto the ring from a member does so in fewer moves than there are members
+
+  walk-moved : {z x : ℕ} {l : List ℕ} → Walk z x l → moved ms (length l) x ≡ some z
+  walk-moved (one e) = rw e
+  walk-moved (more e w) = rw e (walk-moved w)
+
+  -- a place on a walk is come to
+  walk-to : {z x : ℕ} {l : List ℕ} → Walk z x l → (y : ℕ) → In y l → (k : ℕ) × (moved ms (suc k) x ≡ some y)
+  walk-to {z} (one {x} e) y i = go (in-cons i)
+    where
+      go : (y ≡ z) ⊎ In y [] → (k : ℕ) × (moved ms (suc k) x ≡ some y)
+      go (inl q) = (0, rw (e, q))
+      go (inr j) = absurd (in-nil j)
+  walk-to {z} (more {x} {y = u} {l} e w) y i = go (in-cons i) (walk-to w y)
+    where
+      go : (y ≡ u) ⊎ In y l → (In y l → (k : ℕ) × (moved ms (suc k) u ≡ some y)) → (k : ℕ) × (moved ms (suc k) x ≡ some y)
+      go (inl q) ih = (0, rw (e, q))
+      go (inr j) ih = let v = ih j in (suc (v .0), rw e (v .1))
+
+  -- so many moves from x lead onto the ring, fewer than there are members
+  pub record Sooner (x : ℕ) : Type 0 where
+    pub moves : ℕ
+    pub few : moves < length ms
+    pub place : ℕ
+    pub leads : moved ms moves x ≡ some place
+    pub on : onRing ms place ≡ true
+
+  sooner-here : (x : ℕ) → In x (ids ms) → onRing ms x ≡ true → Sooner x
+  sooner-here x i o = record { moves = 0; few = omega (arith, count-less (λ y. false) i refl, length-ids ms); place = x; leads = refl; on = o }
+
+  pub sooner : (x j : ℕ) {place : ℕ} → In x (ids ms) → moved ms j x ≡ some place → onRing ms place ≡ true → Sooner x
+  sooner x zero {place} i h o = let q : x ≡ place = cc in sooner-here x i (rw q o)
+  sooner x (suc j) {place} i h o = go (straight (moved-walk j x h .1))
+    where
+      go : (k : List ℕ) × Walk place x k × NoDup k → Sooner x
+      go (k, v, nd) = sub (in? x k)
+        where
+          member : (y : ℕ) → In y (x ∷ k) → In y (ids ms)
+          member y m = fit (in-cons m)
+            where
+              fit : (y ≡ x) ⊎ In y k → In y (ids ms)
+              fit (inl q) = rw q i
+              fit (inr n) = walk-in v y n
+
+          sub : In x k ⊎ (In x k → ⊥) → Sooner x
+          sub (inl m) = let b = walk-to v x m in sooner-here x i (back-onRing (record { more = b .0; back = b .1 }))
+          sub (inr n) = record { moves = length k; few = omega (arith, pigeonhole (x ∷ k) (ids ms) (n, nd) member, length-ids ms); place = place; leads = walk-moved v; on = o }
 
 pub ring-as-computed : RingAsComputed
 ring-as-computed ws wf x h = (onRing-back _ x, back-onRing _)

@@ -11,7 +11,8 @@ use Rattle.model.specs.Table.{membersIn}
 use Rattle.model.specs.Ring.{live, successor, isPending}
 use Rattle.model.specs.Answer.{accepted}
 use Rattle.member.specs.View.{view}
-use Rattle.stabilize.proofs.Laws.{done-candidate, done-successor, again, looks, is-done}
+use Rattle.laws.specs.Stabilize.{again}
+use Rattle.stabilize.proofs.Laws.{done-candidate, done-successor, looks, is-done}
 use Rattle.stabilize.proofs.reply_of.Statement.{statement}
 use Rattle.stabilize.proofs.reply_of.Tie as tie
 

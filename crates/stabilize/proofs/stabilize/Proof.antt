@@ -18,7 +18,7 @@ use Rattle.laws.specs.Lists.{found, live-in}
 use Rattle.member.specs.View.{view}
 use Rattle.table.specs.Formed.{Formed}
 use Rattle.refusal.proofs.Laws.{refused-formed}
-use Rattle.stabilize.proofs.Laws.{same-id}
+use Rattle.laws.specs.Stabilize.{same-id}
 use Rattle.stabilize.proofs.stabilize.Statement.{statement}
 use Rattle.stabilize.proofs.stabilize.Tie as tie
 

@@ -9,7 +9,7 @@ use Rattle.model.specs.Identifier.{space}
 use Rattle.model.specs.Table.{membersIn}
 use Rattle.model.specs.Ring.{live, successor, isPending}
 use Rattle.member.specs.View.{view}
-use Rattle.stabilize.proofs.Laws.{step-pending, step-live, step-dead}
+use Rattle.laws.specs.Stabilize.{step-pending, step-live, step-dead}
 use Rattle.stabilize.proofs.step.Statement.{statement}
 use Rattle.stabilize.proofs.step.Tie as tie
 

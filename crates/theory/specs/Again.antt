@@ -1,0 +1,163 @@
+-- The stabilize steps of one member of a sound table, with no other call between them: "again" at most r - 1 times, then "look" at most once,
+-- then "done". So r + 1 steps are enough.
+use mathlib.Core.Path.{_≡_, refl, sym, ap, subst, _∙_}
+use mathlib.Core.Logic.{_⊎_, inl, inr}
+use mathlib.Core.Bool.{Bool, true, false, true≢false}
+use mathlib.Core.List.{List, [], _∷_, _++_}
+use Prim.Native.Nat.{ℕ, zero, suc, _-_, _≤_, _<_}
+use native.Mathlib.Omega.{arith}
+use lib.ListN.{length, getD, replicate, drop, length-append, List·getD-append}
+use lib.Dec.{eqb}
+use borrow.Author.Tests.{eqb-false, eq-eqb}
+use Rattle.model.specs.Lists.{if_then_else_, any, contains}
+use Rattle.model.specs.Identifier.{space}
+use Rattle.model.specs.Table.{Member, Table, ids, tableOf, membersIn, wellFormed}
+use Rattle.model.specs.Ring.{live, named, successor, isPending, sound}
+use Rattle.model.specs.Answer.{accepted}
+use Rattle.model.specs.Steps.{isBetter, stabilize, stabilizeReply, replaced}
+use Rattle.model.specs.Refusals.{memberRefusal}
+use Rattle.model.specs.Calls.{stabilizeAnswer, stabilizeWords}
+use Rattle.model.specs.Run.{Stabilize, callWords, run}
+use Rattle.laws.specs.Lists.{In, in-cons, in-nil, found, live-in, or-true}
+use Rattle.laws.specs.Accepted.{member-accepts}
+use Rattle.laws.specs.Tables.{wellFormed-facts, sound-facts}
+use Rattle.laws.specs.Stabilize.{done-pending, again, reply-look, reply-done, offered-better, step-live, step-dead, same-id}
+use Rattle.theory.specs.Keep.{replaced-ids}
+use Rattle.theory.specs.Runs.{Good, stabilize-good, stabilize-table}
+
+-- the next step of n replies "done"; or "look", and the one after it "done"
+pub data Settles (n : ℕ) (ws : List ℕ) : Type 0 where
+  done : (h : ℕ) → stabilizeAnswer ws n ≡ accepted (2 ∷ h ∷ []) → Settles n ws
+  look : (c h : ℕ) → stabilizeAnswer ws n ≡ accepted (1 ∷ c ∷ []) → stabilizeAnswer (stabilizeWords ws n) n ≡ accepted (2 ∷ h ∷ []) → Settles n ws
+
+-- the steps of n on a slice, one after the other, reply "again" at most so many times, and then as above
+pub record Turn (n most : ℕ) (ws : List ℕ) : Type 0 where
+  pub agains : ℕ
+  pub few : agains ≤ most
+  pub each : (k : ℕ) → k < agains → stabilizeAnswer (run (replicate k (Stabilize n)) ws) n ≡ accepted (0 ∷ [])
+  pub last : Settles n (run (replicate agains (Stabilize n)) ws)
+
+-- Lists and members
+
+-- the entry at place i of a list is one of the identifiers
+record LiveAt (xs l : List ℕ) (i : ℕ) : Type 0 where
+  inside : i < length l
+  lives : contains xs (getD l i 0) ≡ true
+
+live-at : (xs l : List ℕ) → any (contains xs) l ≡ true → (i : ℕ) × LiveAt xs l i
+live-at xs [] h = let q : _≡_ {A = ℕ} 0 1 = cc in absurd (omega arith)
+live-at xs (x ∷ l) h = go (or-true (contains xs x) _ h) (live-at xs l)
+  where
+    go : (contains xs x ≡ true) ⊎ (any (contains xs) l ≡ true) → (any (contains xs) l ≡ true → (i : ℕ) × LiveAt xs l i) → (i : ℕ) × LiveAt xs (x ∷ l) i
+    go (inl e) ih = (0, record { inside = omega arith; lives = e })
+    go (inr e) ih = let w = ih e in (suc (w .0), record { inside = omega (arith, w .1 .inside); lives = w .1 .lives })
+
+-- where the first entry is dropped, it stands one place further in front
+in-front : (xs l : List ℕ) (z i : ℕ) → LiveAt xs l (suc i) → LiveAt xs (drop 1 l ++ (z ∷ [])) i
+in-front xs [] z i a = absurd (omega (arith, a .inside))
+in-front xs (x ∷ l) z i a = record { inside = rw length-append (omega (arith, a .inside)); lives = ap (contains xs) (List·getD-append l (z ∷ []) 0 i (omega (arith, a .inside))) ∙ a .lives }
+
+-- the record that stands in a member's place is found there
+named-replaced : (v : Member) (ms : List Member) → In (v .id) (ids ms) → named (replaced v ms) (v .id) ≡ v
+named-replaced v [] i = absurd (in-nil i)
+named-replaced v (m ∷ ms) i = go (eqb (m .id) (v .id)) refl (in-cons i) (named-replaced v ms)
+  where
+    go : (b : Bool) → eqb (m .id) (v .id) ≡ b → (v .id ≡ m .id) ⊎ In (v .id) (ids ms) → (In (v .id) (ids ms) → named (replaced v ms) (v .id) ≡ v) → named (if b then v ∷ ms else m ∷ replaced v ms) (v .id) ≡ v
+    go true e i ih = rw (eq-eqb (v .id) (v .id) refl)
+    go false e (inl q) ih = absurd (eqb-false (m .id) (v .id) e (sym q))
+    go false e (inr j) ih = rw e (ih j)
+
+module _ (n : ℕ) where
+  -- a slice with a sound table that has n
+  record With (ws : List ℕ) : Type 0 where
+    good : Good ws
+    member : live (membersIn ws) n ≡ true
+
+  module _ (ws : List ℕ) (g : With ws) where
+    accepts : memberRefusal ws n ≡ 0
+    accepts = member-accepts ws n (g .good .well-formed) (g .member)
+
+    replies : {vs : List ℕ} → vs ≡ stabilizeReply (membersIn ws) (named (membersIn ws) n) → stabilizeAnswer ws n ≡ accepted vs
+    unfolding stabilizeAnswer
+    replies e = rw accepts (ap accepted (sym e))
+
+    -- the members after a step of n
+
+    members : membersIn (stabilizeWords ws n) ≡ replaced (stabilize space (membersIn ws) (named (membersIn ws) n)) (membersIn ws)
+    members = ap (λ (T : Table). T .members) (stabilize-table ws (g .good) n accepts)
+
+    same-ids : ids (membersIn (stabilizeWords ws n)) ≡ ids (membersIn ws)
+    same-ids = ap ids members ∙ replaced-ids (stabilize space (membersIn ws) (named (membersIn ws) n)) (membersIn ws)
+
+    stepped : named (membersIn (stabilizeWords ws n)) n ≡ stabilize space (membersIn ws) (named (membersIn ws) n)
+    stepped =
+        let v = stabilize space (membersIn ws) (named (membersIn ws) n) in
+        let i = live-in (membersIn ws) n (g .member) in
+        let e : v .id ≡ n = same-id (membersIn ws) (named (membersIn ws) n) space ∙ found (membersIn ws) i .1 in
+        ap (λ (ms : List Member). named ms n) members ∙ subst (λ (x : ℕ). named (replaced v (membersIn ws)) x ≡ v) e (named-replaced v (membersIn ws) (subst (λ (x : ℕ). In x (ids (membersIn ws))) (sym e) i))
+
+    next : With (stabilizeWords ws n)
+    next = record { good = stabilize-good ws (g .good) n; member = subst (λ (xs : List ℕ). contains xs n ≡ true) (sym same-ids) (g .member) }
+
+    -- Steps that end the turn
+
+    finish : isPending (named (membersIn ws) n) ≡ true → Settles n ws
+    finish p = done _ (replies (done-pending (membersIn ws) (named (membersIn ws) n) p))
+
+    awaits : isPending (named (membersIn ws) n) ≡ false → live (membersIn ws) (successor (named (membersIn ws) n)) ≡ true → isBetter (membersIn ws) (named (membersIn ws) n) ≡ true → isPending (named (membersIn (stabilizeWords ws n)) n) ≡ true
+    awaits p d b =
+        let ms = membersIn ws in
+        let m = named ms n in
+        ap isPending (stepped ∙ sym (step-live ms m space p d) ∙ sym (offered-better ms m b))
+
+  settles : (ws : List ℕ) (g : With ws) → isPending (named (membersIn ws) n) ≡ false → live (membersIn ws) (successor (named (membersIn ws) n)) ≡ true → Settles n ws
+  settles ws g p d = go (isBetter (membersIn ws) (named (membersIn ws) n)) refl
+    where
+      go : (b : Bool) → isBetter (membersIn ws) (named (membersIn ws) n) ≡ b → Settles n ws
+      go true b = look _ _ (replies ws g (reply-look (membersIn ws) (named (membersIn ws) n) p d b)) (replies (stabilizeWords ws n) (next ws g) (done-pending _ (named (membersIn (stabilizeWords ws n)) n) (awaits ws g p d b)))
+      go false b = done _ (replies ws g (reply-done (membersIn ws) (named (membersIn ws) n) p d b))
+
+  -- Turns
+
+  turn-here : (ws : List ℕ) (most : ℕ) → Settles n ws → Turn n most ws
+  unfolding run
+  turn-here ws most e = record { agains = 0; few = omega arith; each = λ k h. absurd (omega arith); last = e }
+
+  turn-next : (ws : List ℕ) (most : ℕ) → stabilizeAnswer ws n ≡ accepted (0 ∷ []) → Turn n most (stabilizeWords ws n) → Turn n (suc most) ws
+  unfolding run callWords
+  turn-next ws most first t = record { agains = suc (t .agains); few = omega (arith, t .few); each = each; last = t .last }
+    where
+      each : (k : ℕ) → k < suc (t .agains) → stabilizeAnswer (run (replicate k (Stabilize n)) ws) n ≡ accepted (0 ∷ [])
+      each zero h = first
+      each (suc k) h = t .each k (omega arith)
+
+  -- by the cases of the first step
+  turn-by : (i : ℕ) (ws : List ℕ) → With ws → (isPending (named (membersIn ws) n) ≡ false → live (membersIn ws) (successor (named (membersIn ws) n)) ≡ false → Turn n i ws) → Turn n i ws
+  turn-by i ws g dead = go (isPending (named (membersIn ws) n)) refl (live (membersIn ws) (successor (named (membersIn ws) n))) refl
+    where
+      go : (p : Bool) → isPending (named (membersIn ws) n) ≡ p → (d : Bool) → live (membersIn ws) (successor (named (membersIn ws) n)) ≡ d → Turn n i ws
+      go true p d q = turn-here ws i (finish ws g p)
+      go false p true q = turn-here ws i (settles ws g p q)
+      go false p false q = dead p q
+
+  -- "again" leaves a live entry one place further in front
+  nearer : (ws : List ℕ) (g : With ws) (i : ℕ) → isPending (named (membersIn ws) n) ≡ false → live (membersIn ws) (successor (named (membersIn ws) n)) ≡ false →
+      LiveAt (ids (membersIn ws)) (named (membersIn ws) n .successors) (suc i) → LiveAt (ids (membersIn (stabilizeWords ws n))) (named (membersIn (stabilizeWords ws n)) n .successors) i
+  nearer ws g i p q a =
+      subst (λ (xs : List ℕ). LiveAt xs (named (membersIn (stabilizeWords ws n)) n .successors) i) (sym (same-ids ws g))
+      (subst (λ (v : Member). LiveAt (ids (membersIn ws)) (v .successors) i) (step-dead (membersIn ws) (named (membersIn ws) n) space p q ∙ sym (stepped ws g))
+      (in-front (ids (membersIn ws)) (named (membersIn ws) n .successors) _ i a))
+
+  -- where a live entry stands at place i of the list
+  turn : (i : ℕ) (ws : List ℕ) → With ws → LiveAt (ids (membersIn ws)) (named (membersIn ws) n .successors) i → Turn n i ws
+  turn zero ws g a = turn-by 0 ws g (λ p q. absurd (true≢false (sym (a .lives) ∙ q)))
+  turn (suc i) ws g a = turn-by (suc i) ws g (λ p q. turn-next ws i (replies ws g (again (membersIn ws) (named (membersIn ws) n) p q)) (turn i (stabilizeWords ws n) (next ws g) (nearer ws g i p q a)))
+
+-- of every member of a sound table: "again" at most r - 1 times, then "look" at most once, then "done"
+pub again-ends : (ws : List ℕ) (n : ℕ) → wellFormed ws ≡ true → sound (tableOf ws) ≡ true → live (membersIn ws) n ≡ true → Turn n (tableOf ws .r - 1) ws
+again-ends ws n h s l =
+    let f = found (membersIn ws) (live-in (membersIn ws) n l) in
+    let a = live-at (ids (membersIn ws)) (named (membersIn ws) n .successors) (sound-facts (tableOf ws) s .live-entry (named (membersIn ws) n) (f .0)) in
+    let e = turn n (a .0) ws (record { good = record { well-formed = h; is-sound = s }; member = l }) (a .1) in
+    let t = wellFormed-facts ws h .table .each (named (membersIn ws) n) (f .0) .list-length in
+    record { agains = e .agains; few = omega (arith, e .few, a .1 .inside, t); each = e .each; last = e .last }

@@ -1,0 +1,75 @@
+-- An accepted loss, and the audit after it. On a sound table: the verdict after it is 0 exactly where no withdrawal would have been granted.
+use mathlib.Core.Path.{_≡_, refl, sym, ap, _∙_}
+use mathlib.Core.Bool.{Bool, true, false, not, and-false}
+use mathlib.Core.List.{List}
+use Prim.Native.Nat.{ℕ, _+_}
+use lib.Dec.{eqb, ltb}
+use borrow.Author.Tests.{eqb-true, eqb-false, ltb-true, lt-leb}
+use Rattle.model.specs.Lists.{if_then_else_, every}
+use Rattle.model.specs.Identifier.{space}
+use Rattle.model.specs.Table.{Member, Table, tableOf, membersIn, wellFormed}
+use Rattle.model.specs.Ring.{live, hasLive, principals, sound, verdict}
+use Rattle.model.specs.Steps.{without}
+use Rattle.model.specs.Refusals.{memberRefusal, leaveRefusal, cutsOff, tooFewPrincipals}
+use Rattle.model.specs.Calls.{failAnswer, failWords, leaveAnswer}
+use Rattle.model.specs.Run.{Leave, Fail, callAnswer, callWords, accepts}
+use Rattle.laws.specs.Lists.{live-in}
+use Rattle.laws.specs.Accepted.{answer-number, member-accepted}
+use Rattle.laws.specs.Words.{writtenFreed-table}
+use Rattle.laws.specs.Tables.{wellFormed-facts, formed-lists}
+use Rattle.laws.specs.Removed.{removed-formed}
+use Rattle.theory.specs.Runs.{fail-good}
+
+-- a table that 6 or 7 speaks of is not sound
+
+cut-off-unsound : (T : Table) → every (hasLive (T .members)) (T .members) ≡ false → verdict T ≡ 0
+unfolding verdict sound
+cut-off-unsound T e = rw e
+
+few-unsound : (T : Table) → ltb (principals (T .members)) (T .r + 1) ≡ true → verdict T ≡ 0
+unfolding verdict sound
+few-unsound T e = let h = ltb-true (principals (T .members)) (T .r + 1) e in rw (lt-leb (T .r + 1) (principals (T .members)) h, and-false)
+
+declined-unsound : (ws : List ℕ) (n : ℕ) → wellFormed ws ≡ true → live (membersIn ws) n ≡ true → (leaveRefusal ws n ≡ 0 → ⊥) → verdict (without n (tableOf ws)) ≡ 0
+unfolding leaveRefusal cutsOff tooFewPrincipals
+declined-unsound ws n h l d = go (every (hasLive ms) ms) refl (ltb (principals ms) (tableOf ws .r + 1)) refl (rw (h, l) at d)
+  where
+    ms : List Member
+    ms = without n (tableOf ws) .members
+
+    go : (e : Bool) → every (hasLive ms) ms ≡ e → (t : Bool) → ltb (principals ms) (tableOf ws .r + 1) ≡ t → (_≡_ {A = ℕ} (if not e then 6 else if t then 7 else 0) 0 → ⊥) → verdict (without n (tableOf ws)) ≡ 0
+    go false e t q f = cut-off-unsound (without n (tableOf ws)) e
+    go true e true q f = few-unsound (without n (tableOf ws)) q
+    go true e false q f = absurd (f refl)
+
+-- the table that an accepted loss leaves
+lost-table : (ws : List ℕ) (n : ℕ) → wellFormed ws ≡ true → memberRefusal ws n ≡ 0 → tableOf (failWords ws n) ≡ without n (tableOf ws)
+unfolding failWords
+lost-table ws n h e =
+    rw e (writtenFreed-table (without n (tableOf ws)) ws (formed-lists space _ (removed-formed space n (tableOf ws) (wellFormed-facts ws h .table) (live-in (membersIn ws) n (member-accepted ws n e)))))
+
+-- the calls, accepted, said of their refusals
+
+loss-accepted : (ws : List ℕ) (n : ℕ) → accepts ws (Fail n) ≡ true → memberRefusal ws n ≡ 0
+unfolding callAnswer failAnswer
+loss-accepted ws n h = sym (answer-number (memberRefusal ws n) _) ∙ eqb-true _ 0 h
+
+leave-numbers : (ws : List ℕ) (n : ℕ) → accepts ws (Leave n) ≡ eqb (leaveRefusal ws n) 0
+unfolding callAnswer leaveAnswer
+leave-numbers ws n = ap (λ (k : ℕ). eqb k 0) (answer-number (leaveRefusal ws n) _)
+
+-- after an accepted loss on a sound table: sound, if a withdrawal would have been granted; else verdict 0, and so on every well-formed table
+pub loss-judged : (ws : List ℕ) (n : ℕ) → wellFormed ws ≡ true → accepts ws (Fail n) ≡ true →
+    (sound (tableOf ws) ≡ true → accepts ws (Leave n) ≡ true → sound (tableOf (callWords ws (Fail n))) ≡ true)
+    × (accepts ws (Leave n) ≡ false → verdict (tableOf (callWords ws (Fail n))) ≡ 0)
+unfolding callWords
+loss-judged ws n h f = (granted, ungranted)
+  where
+    e : memberRefusal ws n ≡ 0
+    e = loss-accepted ws n f
+
+    granted : sound (tableOf ws) ≡ true → accepts ws (Leave n) ≡ true → sound (tableOf (failWords ws n)) ≡ true
+    granted s a = fail-good ws (record { well-formed = h; is-sound = s }) n (λ q. eqb-true _ 0 (sym (leave-numbers ws n) ∙ a)) .is-sound
+
+    ungranted : accepts ws (Leave n) ≡ false → verdict (tableOf (failWords ws n)) ≡ 0
+    ungranted a = ap verdict (lost-table ws n h e) ∙ declined-unsound ws n h (member-accepted ws n e) (λ q. eqb-false _ 0 (sym (leave-numbers ws n) ∙ a) q)
