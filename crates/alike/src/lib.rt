@@ -1,17 +1,29 @@
 // Alike: two tables with equal r, members and first entries.
 ghost use mathlib.Core.Path.{_≡_};
-ghost use Prim.Native.Nat.{_*_, _≤_};
+ghost use Prim.Native.Nat.{ℕ, _*_, _≤_};
 ghost use mathlib.Core.Bool.{_&&_};
 ghost use mathlib.Core.List.{map};
+ghost use lib.Dec.{eqb};
 ghost use lib.ListN.{length};
 ghost use Rattle.model.specs.Lists.{same};
-ghost use Rattle.model.specs.Table.{recordSize, membersOf, tableOf, ids};
+ghost use Rattle.model.specs.Table.{recordSize, memberOf, membersOf, tableOf, ids};
 ghost use Rattle.model.specs.Ring.{successor};
 ghost use Rattle.model.specs.Alike.{alike as alikeOf};
 ghost use Rattle.model.specs.Calls.{alikeAnswer};
 ghost use Rattle.table.specs.Formed.{Formed};
 ghost use Rattle.reply.specs.Answers.{answerOf};
 use reply::Reply;
+
+// Have the records that the two parts hold equal identifiers and first entries?
+fn record_alike(u: &[u32], v: &[u32]) -> bool
+    requires { ⌜ (5 ≤ length (now u)) × (5 ≤ length (now v)) ⌝ }
+    ensures { λ b. ⌜ ((r : ℕ) → 1 ≤ r → b ≡ (eqb (memberOf r (now (u .entry)) .id) (memberOf r (now (v .entry)) .id) && eqb (successor (memberOf r (now (u .entry)))) (successor (memberOf r (now (v .entry)))))) ⌝ }
+{
+    if u[0] != v[0] {
+        return false;
+    }
+    u[4] == v[4]
+}
 
 // Have the n records at the front of each equal identifiers and first entries?
 fn records_alike(us: &[u32], vs: &[u32], r: usize, n: usize) -> bool
@@ -23,15 +35,13 @@ fn records_alike(us: &[u32], vs: &[u32], r: usize, n: usize) -> bool
     let mut q = vs;
     let mut left = n;
     while 0 < left {
-        if p[0] != q[0] {
+        if record_alike(&p[..w], &q[..w]) {
+            p = &p[w..];
+            q = &q[w..];
+            left -= 1;
+        } else {
             return false;
         }
-        if p[4] != q[4] {
-            return false;
-        }
-        p = &p[w..];
-        q = &q[w..];
-        left -= 1;
     }
     true
 }

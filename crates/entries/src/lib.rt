@@ -4,7 +4,7 @@ ghost use mathlib.Core.List.{_++_};
 ghost use Prim.Native.Nat.{_≤_};
 ghost use lib.ListN.{length, take, drop};
 
-// Eight entries, copied behind the first four words. All are read before any is written: so they move in blocks.
+// Eight entries, copied after the first four words. All are read before any is written: so they move in blocks.
 pub fn write_eight(part: &mut [u32], ys: &[u32])
     requires { ⌜ (8 ≤ length (now ys)) × (12 ≤ length (now part)) ⌝ }
     ensures { λ _. ⌜ now (part .exit) ≡ take 4 (now (part .entry)) ++ take 8 (now (ys .entry)) ++ drop 12 (now (part .entry)) ⌝ }

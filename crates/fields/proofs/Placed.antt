@@ -1,4 +1,4 @@
--- Runs of elements in their places: one run behind the other is their sum in its place. Assumes nothing.
+-- Runs of elements in their places: one run after the other is their sum in its place. Assumes nothing.
 use Prim.Native.Nat.{ℕ, zero, suc, _+_, _*_, _-_, _≤_, _<_}
 use mathlib.Core.Path.{_≡_, refl, sym, ap, _∙_}
 use mathlib.Core.List.{List, [], _∷_, _++_, append-nil, append-assoc}
@@ -17,7 +17,7 @@ module _ (at : ℕ) (v l : List ℕ) (fits : at + length v ≤ length l) where
   pub placed-length : length (placed at v l) ≡ length l
   placed-length = simp (length-append, length-drop, length-take-le at l (omega arith)) (omega arith)
 
--- b behind a, which takes n places
+-- b after a, which takes n places
 pub placed-more : (at n : ℕ) (a b l : List ℕ) → at ≤ length l → length a ≡ n → placed (at + n) b (placed at a l) ≡ placed at (a ++ b) l
 placed-more at n a b l h e =
     let front : List ℕ = take at l ++ a in
@@ -35,7 +35,7 @@ placed-then at n a b l m k h e p q = q ∙ ap (placed (at + n) b) p ∙ placed-m
 pub placed-one : (at x : ℕ) (l : List ℕ) → at < length l → set l at x ≡ placed at (x ∷ []) l
 placed-one at x l h = sets-eq (x ∷ []) l at (omega arith)
 
--- The loops: what is left after i turns, placed behind what was placed, is the whole
+-- The loops: what is left after i turns, placed after what was placed, is the whole
 
 -- `put_words`: one word in its four bytes
 pub word-turn : (at i : ℕ) (ws out : List ℕ) → i < length ws → at + 4 * i ≤ length out → placed (at + 4 * (i + 1)) (words4 (drop (i + 1) ws)) (placed (at + 4 * i) (bytesOf 4 (getD ws i 0)) out) ≡ placed (at + 4 * i) (words4 (drop i ws)) out
@@ -51,7 +51,7 @@ number-turn at i n bs t h l =
     let b : 4 * (i + 1) ≡ 4 * i + 4 = omega arith in
     rw (o, k, b, ← drop-drop 4 (4 * i) bs, placed-one (at + i) (numberAt bs (4 * i) 4) t l) (placed-more (at + i) 1 (numberAt bs (4 * i) 4 ∷ []) (numbersAt (n - (i + 1)) (drop 4 (drop (4 * i) bs))) t (omega arith) refl)
 
--- `get_words`: k numbers and those behind them
+-- `get_words`: k numbers and those after them
 pub numbers-more : (k m n : ℕ) (bs : List ℕ) → k + m ≡ n → numbersAt k bs ++ numbersAt m (drop (4 * k) bs) ≡ numbersAt n bs
 numbers-more zero m n bs e =
     let q : m ≡ n = omega arith in

@@ -71,9 +71,9 @@ pub fn put_words(out: &mut [u8], at: usize, ws: &[u32])
     }
 }
 
-// The field of the member whose record stands at the front of ws.
+// The field of the member whose record the part holds.
 pub fn write_field(out: &mut [u8], at: usize, ws: &[u32], r: usize)
-    requires { ⌜ (r ≤ 8) × (recordSize r ≤ length (now ws)) × (at + fieldSize r ≤ length (now out)) ⌝ }
+    requires { ⌜ (r ≤ 8) × (length (now ws) ≡ recordSize r) × (at + fieldSize r ≤ length (now out)) ⌝ }
     ensures { λ _. ⌜ now (out .exit) ≡ placed at (memberField (memberOf r (now (ws .entry)))) (now (out .entry)) ⌝ }
 {
     put_head(out, at, 2, 13 + 4 * r);
@@ -107,9 +107,9 @@ pub fn get_words(t: &mut [u32], at: usize, bs: &[u8], n: usize)
     get_run(t, at, bs, n);
 }
 
-// The record of the member whose field stands at the front of bs.
+// The record of the member whose field the part holds.
 pub fn read_field(t: &mut [u32], at: usize, bs: &[u8], r: usize)
-    requires { ⌜ (r ≤ 8) × (fieldSize r ≤ length (now bs)) × (at + recordSize r ≤ length (now t)) ⌝ }
+    requires { ⌜ (r ≤ 8) × (length (now bs) ≡ fieldSize r) × (at + recordSize r ≤ length (now t)) ⌝ }
     ensures { λ _. ⌜ now (t .exit) ≡ placed at (recordOf (fieldMember r (drop 3 (now (bs .entry))))) (now (t .entry)) ⌝ }
 {
     get_words(t, at, &bs[3..], 2);

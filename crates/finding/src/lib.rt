@@ -79,6 +79,7 @@ fn way_from(t: &[u32], best: &[usize; 256], a: &[u32; 256], k: usize) -> Way
             };
         }
     }
+    // Not reached: n moves among n places come to one twice. That one is on the ring, where the moves are known.
     Way {
         steps: 1,
         value: never,
@@ -148,7 +149,7 @@ fn survey_of(t: &[u32]) -> Survey
     let principal = principal::principal_bits(t);
     let on = places::count_of(&moves, n, 0);
     let count = places::count_of(&principal, n, 1);
-    let v = audit::verdict_of(t, &best, count);
+    let v = verdict::verdict_of(t, &best, count);
     let reply = Reply::Report(n as u32, count as u32, on as u32, v);
     Survey {
         reply: reply,

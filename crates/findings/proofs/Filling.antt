@@ -49,7 +49,7 @@ views-set [] k f = refl
 views-set (x ∷ fs) zero f = refl
 views-set (x ∷ fs) (suc k) f = ap (λ (l : List FindingOf). view x ∷ l) (views-set fs k f)
 
--- one more finding, in its place behind the others
+-- one more finding, in its place after the others
 one-more : {A : Type 0} (new old : List A) (n : ℕ) (d : A) → n < length new → n < length old → set (take n new ++ drop n old) n (getD new n d) ≡ take (suc n) new ++ drop (suc n) old
 one-more new old n d h k =
     rw (drop-cons old n d k, set-at (take n new) (getD old n d) (drop (suc n) old) (getD new n d) n (length-take-le n new (omega arith)), take-suc new n d h)
@@ -58,7 +58,7 @@ one-more new old n d h k =
 findings-length : (ms : List Member) → length (findings ms) ≡ length ms
 findings-length ms = length-map (ids ms) (findingOf ms) ∙ length-ids ms
 
--- so the first n findings stand in front of the records behind
+-- so the first n findings stand in front of the later records
 filled-views : (ms : List Member) (ys : List Finding) (n : ℕ) → n ≤ length ms → length ms ≤ length ys → views (filled ms n ys) ≡ take n (findings ms) ++ drop n (views ys)
 filled-views ms ys zero h k = refl
 filled-views ms ys (suc n) h k =

@@ -1,5 +1,4 @@
 -- Laws and names that the walks of this crate cite.
-pub mod Tail
 pub mod Filling
 pub mod Slots
 pub mod Rows

@@ -27,7 +27,7 @@ pub stands : (bs : List ℕ) (at tag len : ℕ) (b : Bool) → at + 3 + len ≤ 
 unfolding fieldStands
 stands bs at tag len b l e = rw (le-leb (at + 3 + len) (length bs) l, ← e, part-from at bs, getD-drop, drop-drop, add-zero)
 
--- The field due behind the first one
+-- The field due after the first one
 
 -- the first field stands, its r and its member count give the members' fields w bytes each and all together
 pub record Behind (bs : List ℕ) (at all w : ℕ) : Type 0 where
@@ -71,7 +71,7 @@ module _ (bs : List ℕ) (at : ℕ) where
   unfolding fieldAt due fieldStands
   cut-short n h s = rw (ne-eqb at 0 n, le-leb 10 at h, lt-leb 10 (length bs) s)
 
-  -- behind the first field: what is due by its r and its member count
+  -- after the first field: what is due by its r and its member count
   module _ (n : at ≡ 0 → ⊥) (h : 10 ≤ at) (l : 10 ≤ length bs) where
     behind : (b : Bool) → headIs bs 1 7 ≡ b → option (if b then dueAfter (imageR bs) (imageCount bs) (at - 10) else none) (declined 9) (fieldReply bs at) ≡ fieldAt bs at
     unfolding fieldAt due fieldStands

@@ -1,4 +1,4 @@
--- The loops over fields: what is left, placed behind what was placed, is the whole. Assumes nothing.
+-- The loops over fields: what is left, placed after what was placed, is the whole. Assumes nothing.
 use Prim.Native.Nat.{ℕ, zero, suc, _+_, _*_, _-_, _/_, _%_, _≤_, _<_}
 use mathlib.Core.Path.{_≡_, refl}
 use mathlib.Core.List.{List, [], _∷_, _++_}

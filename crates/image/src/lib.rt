@@ -77,7 +77,7 @@ fn write_header(out: &mut [u8], r: usize, n: usize, steps: u32)
     fields::put4(out, 6, steps);
 }
 
-// One field a member, for n records, behind the first field.
+// One field a member, for n records, after the first field.
 fn write_fields(out: &mut [u8], ws: &[u32], r: usize, n: usize)
     requires { ⌜ (r ≤ 8) × (n * recordSize r ≤ length (now ws)) × (10 + n * fieldSize r ≤ length (now out)) ⌝ }
     ensures { λ _. ⌜ now (out .exit) ≡ placed 10 (memberFields (membersOf r n (now (ws .entry)))) (now (out .entry)) ⌝ }
@@ -88,14 +88,14 @@ fn write_fields(out: &mut [u8], ws: &[u32], r: usize, n: usize)
     let mut at: usize = 10;
     let mut left = n;
     while 0 < left {
-        fields::write_field(out, at, p, r);
+        fields::write_field(out, at, &p[..w], r);
         p = &p[w..];
         at += b;
         left -= 1;
     }
 }
 
-// The image of a well-formed table, at the front of the bytes; those behind it stay.
+// The image of a well-formed table, at the front of the bytes; those after it stay.
 fn write_image(t: &[u32], out: &mut [u8])
     requires { ⌜ Formed (now t) ⌝ }
     requires { ⌜ 13 + getD (now t) 1 0 * fieldSize (getD (now t) 0 0) ≤ length (now out) ⌝ }
@@ -124,7 +124,7 @@ pub fn write(t: &[u32], out: &mut [u8]) -> Reply
     Reply::Declined(1)
 }
 
-// The records of n members, from their fields, behind the header.
+// The records of n members, from their fields, after the header.
 fn read_fields(t: &mut [u32], f: &[u8], r: usize, n: usize)
     requires { ⌜ (r ≤ 8) × (n * fieldSize r ≤ length (now f)) × (3 + n * recordSize r ≤ length (now t)) ⌝ }
     ensures { λ _. ⌜ now (t .exit) ≡ placed 3 (recordsOf (fieldMembers r n (now (f .entry)))) (now (t .entry)) ⌝ }
@@ -135,14 +135,14 @@ fn read_fields(t: &mut [u32], f: &[u8], r: usize, n: usize)
     let mut at: usize = 3;
     let mut left = n;
     while 0 < left {
-        fields::read_field(t, at, p, r);
+        fields::read_field(t, at, &p[..w], r);
         p = &p[w..];
         at += s;
         left -= 1;
     }
 }
 
-// The table that an image says, at the front of the words; those behind it stay.
+// The table that an image says, at the front of the words; those after it stay.
 fn read_image(t: &mut [u32], image: &[u8])
     requires { ⌜ (imageR (now image) ≤ 8) × (13 + imageCount (now image) * fieldSize (imageR (now image)) ≤ length (now image)) × (3 + imageCount (now image) * recordSize (imageR (now image)) ≤ length (now t)) ⌝ }
     ensures { λ _. ⌜ now (t .exit) ≡ placed 0 (wordsOf (tableIn (now (image .entry)))) (now (t .entry)) ⌝ }

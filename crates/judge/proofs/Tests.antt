@@ -6,10 +6,11 @@ use mathlib.Core.List.{List}
 use native.Mathlib.Nat.{mul-le-mul-right, le-trans}
 use native.Mathlib.Omega.{arith}
 use lib.Dec.{eqb}
-use lib.ListN.{drop}
+use lib.ListN.{take, drop}
+use lib.Seq.{getD-take}
 use borrow.Author.Tests.{lt-leb, le-leb, ne-eqb}
 use Rattle.model.specs.Image.{numberAt, memberLength}
-use Rattle.laws.specs.Bytes.{fieldSize}
+use Rattle.laws.specs.Bytes.{fieldSize, number-part}
 use Rattle.table.specs.Tests.{rightPending}
 use Rattle.fields.specs.Placed.{headIs}
 use Rattle.judge.specs.Tests.{fieldRight, fieldsRight}
@@ -43,6 +44,11 @@ module _ (r lo : ℕ) (f : List ℕ) where
     pub pending-none : numberAt f 11 1 ≤ 1 → (numberAt f 11 1 ≡ 1 → ⊥) → eqb (numberAt f 12 4) 0 ≡ fieldRight r lo f
     unfolding fieldRight rightPending
     pending-none h n = rw (head, le-leb lo (numberAt f 3 4) id, le-leb (numberAt f 11 1) 1 h, ne-eqb (numberAt f 11 1) 1 n)
+
+-- the test looks at the first 16 bytes
+pub right-part : (r lo n : ℕ) (f : List ℕ) → 16 ≤ n → fieldRight r lo (take n f) ≡ fieldRight r lo f
+unfolding fieldRight
+right-part r lo n f h = rw (getD-take n f 0 0 (omega arith), number-part 1 2 n f (omega arith), number-part 3 4 n f (omega arith), number-part 11 1 n f (omega arith), number-part 12 4 n f h)
 
 first-field : (r n lo : ℕ) (f : List ℕ) → 0 < n → fieldsRight r lo n f ≡ (fieldRight r lo f && fieldsRight r (numberAt f 3 4 + 1) (n - 1) (drop (fieldSize r) f))
 first-field r zero lo f h = absurd (omega arith)

@@ -14,9 +14,9 @@ pub fn image_size(r: usize, n: usize) -> usize
     13 + n * (16 + 4 * r)
 }
 
-// Is the field at the front a member's, with an identifier of at least lo, and right?
+// Is the field that the part holds a member's, with an identifier of at least lo, and right?
 fn field_ok(f: &[u8], r: usize, lo: usize) -> bool
-    requires { ⌜ (r ≤ 8) × (fieldSize r ≤ length (now f)) ⌝ }
+    requires { ⌜ (r ≤ 8) × (length (now f) ≡ fieldSize r) ⌝ }
     ensures { λ b. ⌜ b ≡ fieldRight r lo (now (f .entry)) ⌝ }
 {
     if fields::head_is(f, 2, 13 + 4 * r) {
@@ -37,7 +37,7 @@ fn field_ok(f: &[u8], r: usize, lo: usize) -> bool
     false
 }
 
-// Are the n fields at the front right, by rising identifier, and the one behind them the last?
+// Are the n fields at the front right, by rising identifier, and the one after them the last?
 fn fields_ok(f: &[u8], r: usize, n: usize) -> bool
     requires { ⌜ (r ≤ 8) × (n * fieldSize r + 3 ≤ length (now f)) ⌝ }
     ensures { λ b. ⌜ b ≡ fieldsRight r 0 n (now (f .entry)) ⌝ }
@@ -47,7 +47,7 @@ fn fields_ok(f: &[u8], r: usize, n: usize) -> bool
     let mut left = n;
     let mut lo: usize = 0;
     while 0 < left {
-        if field_ok(p, r, lo) {
+        if field_ok(&p[..w], r, lo) {
             lo = fields::number4(p, 3) as usize + 1;
             p = &p[w..];
             left -= 1;

@@ -38,13 +38,13 @@ pub next-part : (p : List ℕ) → 0 < length p → following p ≡ take (reach 
 next-part [] h = absurd (omega arith)
 next-part (b ∷ l) h = first-part l
 
--- the first n of a list are not changed by leaving out, early, what stands behind them
+-- the first n of a list are not changed by leaving out, early, what stands after them
 pub take-early : {A : Type 0} (n : ℕ) (a b : List A) → take n (take n a ++ b) ≡ take n (a ++ b)
 take-early zero a b = refl
 take-early (suc n) [] b = refl
 take-early (suc n) (x ∷ a) b = ap (λ (l : List _). x ∷ l) (take-early n a b)
 
--- numbers behind those that were kept
+-- numbers after those that were kept
 abbrev pub behind : List ℕ → Option (List ℕ) → Option (List ℕ)
 behind ys none = none
 behind ys (some ns) = some (ys ++ ns)

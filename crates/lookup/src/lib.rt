@@ -36,6 +36,7 @@ fn walk(t: &[u32], start: usize, k: u32) -> Reply
         moves += 1;
         left -= 1;
     }
+    // Not reached: each move leaves fewer members on the way to the key, so the walk ends within n places (Lookup in `theory`).
     Reply::Stuck(ring::id_at(t, at))
 }
 

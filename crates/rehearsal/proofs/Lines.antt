@@ -12,7 +12,7 @@ use Rattle.script.specs.Lines.{onFirst, counted, lines}
 use Rattle.line.specs.Reading.{reach}
 use Rattle.rehearsal.specs.Outcomes.{Passed}
 
--- the first line, and those behind its line feed
+-- the first line, and those after its line feed
 first-line : (p : List ℕ) → 0 < length p → lines p ≡ take (reach 10 p) p ∷ lines (drop (suc (reach 10 p)) p)
 first-line [] h = absurd (omega arith)
 first-line (b ∷ []) h = go (eqb b 10)

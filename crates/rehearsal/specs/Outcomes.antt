@@ -32,7 +32,7 @@ abbrev pub Within : Outcome → List ℕ → Type 0
 Within (Written k) out = (k ≤ length out) × (k ≡ length (take k out))
 Within TooShort out = Unit {0}
 
--- e is the place behind the first line of p, which is k bytes long, and its line feed
+-- e is the place after the first line of p, which is k bytes long, and its line feed
 pub record Passed (p : List ℕ) (k e : ℕ) : Type 0 where
   pub first : lines p ≡ take k p ∷ lines (drop e p)
   pub within : e ≤ length p

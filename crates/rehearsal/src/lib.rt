@@ -53,7 +53,7 @@ fn run_line(l: &[u8], n: u32, t: &mut [u32], out: &mut [u8], at: usize) -> usize
     }
 }
 
-// The place behind the first line, which is k bytes long, and its line feed.
+// The place after the first line, which is k bytes long, and its line feed.
 fn past(p: &[u8], k: usize) -> usize
     requires { ⌜ (k ≡ reach 10 (now p)) × (k ≤ length (now p)) × (0 < length (now p)) ⌝ }
     ensures { λ e. ⌜ Passed (now (p .entry)) k e ⌝ }

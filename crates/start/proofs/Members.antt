@@ -40,7 +40,7 @@ module _ (xs : List ℕ) where
   pub front-stored : (l : List ℕ) (x p : ℕ) → p ≡ nextDown xs x → 4 ≤ length l → set (set (set (set l 0 x) 1 p) 2 0) 3 0 ≡ overlay (recordOf (newMember 0 xs x)) l
   front-stored l x p e h = rw e (stored (recordOf (newMember 0 xs x)) l h)
 
-  -- and the entries behind them
+  -- and the entries after them
   pub record-stored : (l m s : List ℕ) (r x : ℕ) → m ≡ overlay (recordOf (newMember 0 xs x)) l → s ≡ nextUps r xs x → recordSize r ≤ length l → sets m 4 s ≡ overlay (recordOf (newMember r xs x)) l
   record-stored l m s r x e f h =
       let g : m ≡ sets l 0 (recordOf (newMember 0 xs x)) = e ∙ sym (stored (recordOf (newMember 0 xs x)) l (omega arith)) in

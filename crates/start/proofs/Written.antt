@@ -24,7 +24,7 @@ module _ (r : ℕ) (xs : List ℕ) where
   pub record-fits : (i : ℕ) → i < length xs → headerSize + i * recordSize r + recordSize r ≤ size (newTable r xs)
   record-fits i h = omega (arith, new-size r xs, suc-mul i (recordSize r), mul-le-mul-right {m = suc i} {n = length xs} (recordSize r) (omega arith))
 
-  -- and with eight entries, where eight records come behind it
+  -- and with eight entries, where eight records come after it
   pub eight-fit : (i : ℕ) → i + 8 < length xs → headerSize + i * recordSize r + 12 ≤ size (newTable r xs)
   eight-fit i h = omega (arith, suc-mul i (recordSize r), suc-mul (suc i) (recordSize r), record-fits (suc (suc i)) (omega arith))
 
@@ -57,7 +57,7 @@ module _ (r : ℕ) (xs : List ℕ) where
 over-itself : (p q t t₀ : List ℕ) → t ≡ overlay (p ++ q) t₀ → t ≡ overlay p t
 over-itself p q t t₀ e = rw (e, append-assoc p q, drop-append-seam p)
 
--- what lies behind the new words is the old
+-- what lies after the new words is the old
 behind : (p t : List ℕ) (n : ℕ) → length p ≤ n → drop n (overlay p t) ≡ drop n t
 behind p t n h =
     let q : length p + (n - length p) ≡ n = omega arith in
@@ -67,7 +67,7 @@ behind p t n h =
 abbrev pub replaced : List ℕ → List ℕ → ℕ → List ℕ
 replaced t y at = take at t ++ (y ++ drop (length t - at) (drop at t))
 
--- more words written behind those that were, to the part from at on
+-- more words written after those that were, to the part from at on
 overlay-more : (t t₀ y p q : List ℕ) (at : ℕ) → t ≡ overlay p t₀ → length p ≡ at → y ≡ overlay q (take (length t - at) (drop at t)) → replaced t y at ≡ overlay (p ++ q) t₀
 overlay-more t t₀ y p q at e lp f =
     let z : drop (length t - at) (drop at t) ≡ [] = drop-of-length-le (drop at t) {i = length t - at} (simp length-drop (omega arith)) in
@@ -104,7 +104,7 @@ module _ (r : ℕ) (xs : List ℕ) where
   pub begun-on : (t t₀ y : List ℕ) (i at : ℕ) → i < length xs → at ≡ headerSize + i * recordSize r → y ≡ overlay (recordOf (newMember r xs (getD xs i 0))) (take (length t - at) (drop at t)) → t ≡ overlay (begun r xs i) t₀ → replaced t y at ≡ overlay (begun r xs (i + 1)) t₀
   begun-on t t₀ y i at h o f e = record-on r t y i at h o f t₀ e ∙ ap (λ (l : List ℕ). overlay l t₀) (sym (begun-more r xs i h))
 
-  -- all records are written, and the words behind the table are the old ones
+  -- all records are written, and the words after the table are the old ones
   pub begun-whole : (t₁ t : List ℕ) (i : ℕ) → i ≡ length xs → 3 ≤ length t → drop (size (newTable r xs)) t₁ ≡ drop (size (newTable r xs)) (headed r xs t) → overlay (begun r xs i) t₁ ≡ overlay (wordsOf (newTable r xs)) t
   begun-whole t₁ t i e h f =
       let n = words-length (newTable r xs) (new-lengths r xs xs) in

@@ -114,7 +114,7 @@ fn write_ahead(part: &mut [u32], xs: &[u32], i: usize)
     entries::write_eight(part, &xs[above..]);
 }
 
-// The words of the new table, written; the words behind them stay. The entries past r are written over by the next records.
+// The words of the new table, written; the words after them stay. The entries past r are written over by the next records.
 fn write_table(t: &mut [u32], r: usize, xs: &[u32])
     requires { ⌜ (rising (now xs) ≡ true) × (r ≤ 8) × (length (now xs) ≤ 256) × (size (newTable r (now xs)) ≤ length (now t)) ⌝ }
     ensures { λ _. ⌜ now (t .exit) ≡ overlay (wordsOf (newTable r (now (xs .entry)))) (now (t .entry)) ⌝ }

@@ -62,7 +62,7 @@ module _ (a b d n k j : ℕ) (new : List Member) (zs body : List ℕ) (kn : k �
       let l : length (v ++ zs) ≡ z = simp (length-append, length-take, length-drop) (omega arith) in
       rw (edited-records, edited-count, qv, l, qc) (ap (λ (x : List ℕ). a ∷ (k + (length new + (n - j))) ∷ d ∷ x) (sym (join (take (k * w) body) vs (take ((n - j) * w) (drop (j * w) body)) zs (drop z body))))
 
--- a written table: nothing is cleared behind it
+-- a written table: nothing is cleared after it
 written-exact : (T : Table) (ws : List ℕ) → overlay (wordsOf T ++ []) ws ≡ written T ws
 written-exact T ws = ap (λ (x : List ℕ). overlay x ws) (append-nil (wordsOf T))
 

@@ -11,7 +11,7 @@ use borrow.Author.Tests.{leb-true, le-leb, lt-leb, lt-ltb, eq-eqb, ne-eqb}
 use lib.Dec.{leb, ltb, eqb, leb·zero}
 use lib.ListN.{length, getD, take, drop, length-take, length-drop}
 use lib.Seq.{getD-drop}
-use Rattle.laws.specs.Lists.{and-true as both}
+use Rattle.laws.specs.Lists.{and-true as both, and-pairs}
 use Rattle.laws.specs.Order.{equal?, less?}
 use Rattle.model.specs.Lists.{every, rising, risingFrom}
 use Rattle.model.specs.Identifier.{space}
@@ -61,13 +61,6 @@ member-tests r ws l h =
     let b : every (λ x. ltb x space) list ≡ true = every-below list (bounded-take r (drop 4 ws) (bounded-drop 4 ws h)) in
     rw (eq-eqb (length list) r n, lt-ltb (getD ws 0 0) space (h 0), lt-ltb (getD ws 1 0) space (h 1), lt-ltb (getD ws 3 0) space (h 3), b, and-true, and-true)
 
-regroup : (a b c d : Bool) → (a && b && (c && d)) ≡ (a && c && (b && d))
-regroup true true true d = refl
-regroup true true false d = refl
-regroup true false true d = refl
-regroup true false false d = refl
-regroup false b c d = refl
-
 module _ (r : ℕ) where
   members-tests : (lo n : ℕ) (ws : List ℕ) → n * recordSize r ≤ length ws → Bounded ws → (risingFrom lo (ids (membersOf r n ws)) && every (formedMember space r) (membersOf r n ws)) ≡ rightFrom (lo + 1) (membersOf r n ws)
   members-tests lo zero ws l h = refl
@@ -76,7 +69,7 @@ module _ (r : ℕ) where
       let rest : List ℕ = drop (recordSize r) ws in
       let x : ℕ = getD ws 0 0 in
       let i = members-tests x n rest (simp length-drop (omega arith)) (bounded-drop (recordSize r) ws h) in
-      regroup (ltb lo x) (risingFrom x (ids (membersOf r n rest))) (formedMember space r (memberOf r ws)) (every (formedMember space r) (membersOf r n rest)) ∙ rw (member-tests r ws (omega arith) h, i, add-one lo)
+      and-pairs (ltb lo x) (risingFrom x (ids (membersOf r n rest))) (formedMember space r (memberOf r ws)) (every (formedMember space r) (membersOf r n rest)) ∙ rw (member-tests r ws (omega arith) h, i, add-one lo)
 
   all-tests : (n : ℕ) (ws : List ℕ) → n * recordSize r ≤ length ws → Bounded ws → (rising (ids (membersOf r n ws)) && every (formedMember space r) (membersOf r n ws)) ≡ rightFrom 0 (membersOf r n ws)
   all-tests zero ws l h = refl
@@ -85,7 +78,7 @@ module _ (r : ℕ) where
       let rest : List ℕ = drop (recordSize r) ws in
       let x : ℕ = getD ws 0 0 in
       let i = members-tests x n rest (simp length-drop (omega arith)) (bounded-drop (recordSize r) ws h) in
-      regroup true (risingFrom x (ids (membersOf r n rest))) (formedMember space r (memberOf r ws)) (every (formedMember space r) (membersOf r n rest)) ∙ rw (member-tests r ws (omega arith) h, i, leb·zero x)
+      and-pairs true (risingFrom x (ids (membersOf r n rest))) (formedMember space r (memberOf r ws)) (every (formedMember space r) (membersOf r n rest)) ∙ rw (member-tests r ws (omega arith) h, i, leb·zero x)
 
 -- a slice whose sizes are right is well-formed by the tests of its records
 pub tests : (ws : List ℕ) → Bounded ws → headerSize ≤ length ws → 1 ≤ getD ws 0 0 → getD ws 0 0 ≤ 8 → getD ws 1 0 ≤ 256 → headerSize + getD ws 1 0 * recordSize (getD ws 0 0) ≤ length ws → rightFrom 0 (membersIn ws) ≡ wellFormed ws

@@ -3,3 +3,4 @@ pub mod Members
 pub mod Formed
 pub mod Place
 pub mod Edits
+pub mod Tail

@@ -84,7 +84,7 @@ module _ (ws : List ℕ) where
         let s = suc-mul k (recordSize (getD ws 0 0)) in
         omega arith
 
-    -- its list, as the part of the table behind its four other words
+    -- its list, as the part of the table after its four other words
     pub list-at : take (at + 4 + getD ws 0 0 - (at + 4)) (drop (at + 4) ws) ≡ getD (membersIn ws) k nobody .successors
     list-at =
         let r : ℕ = getD ws 0 0 in

@@ -15,7 +15,7 @@ ghost use Rattle.table.specs.Rank.{rank as rankOf};
 ghost use Rattle.table.specs.Tests.{rightPending, rightFrom};
 use member::Member;
 
-// Is the record at the front right, with an identifier of at least lo?
+// Is the record that the part holds right, with an identifier of at least lo?
 fn record_ok(s: &[u32], lo: usize) -> bool
     requires { ⌜ 4 ≤ length (now s) ⌝ }
     ensures { λ b. ⌜ b ≡ (leb lo (getD (now (s .entry)) 0 0) && rightPending (getD (now (s .entry)) 2 0) (getD (now (s .entry)) 3 0)) ⌝ }
@@ -42,7 +42,7 @@ fn records_ok(s: &[u32], r: usize, n: usize) -> bool
     let mut left = n;
     let mut lo: usize = 0;
     while 0 < left {
-        if record_ok(p, lo) {
+        if record_ok(&p[..w], lo) {
             lo = p[0] as usize + 1;
             p = &p[w..];
             left -= 1;

@@ -13,7 +13,7 @@ abbrev pub limit : ℕ → ℕ
 limit zero = 1
 limit (suc k) = 10 * limit k
 
--- the digits so far stand in a behind place i; those of v are still to be written
+-- the digits so far stand in a, after place i; those of v are still to be written
 pub record Left (n : ℕ) (a : List ℕ) (i v : ℕ) : Type 0 where
   pub ten : length a ≡ 10
   pub within : i ≤ 9

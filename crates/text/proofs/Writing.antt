@@ -22,7 +22,7 @@ module _ {a b o m e : List ℕ} {at i j : ℕ} where
     bytes = q .bytes ∙ rw (p .bytes, p .place) (sym (sets-append a b o at));
   }
 
--- room for the second behind the first
+-- room for the second after the first
 pub room-then : (a b o m : List ℕ) (at i : ℕ) → at + length (a ++ b) ≤ length o → Wrote a at o i m → i + length b ≤ length m
 room-then a b o m at i h p = rw (p .bytes, length-sets o at a) (omega (arith, p .place, length-append a b))
 

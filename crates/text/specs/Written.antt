@@ -9,7 +9,7 @@ use Rattle.script.specs.Lines.{letters}
 use Rattle.script.specs.declared.Word.{Word}
 use Rattle.text.specs.declared.Values.{Values}
 
--- the bytes s were written into o from the place at on: the place behind them, and the bytes afterwards
+-- the bytes s were written into o from the place at on: the place after them, and the bytes afterwards
 pub record Wrote (s : List ℕ) (at : ℕ) (o : List ℕ) (end : ℕ) (after : List ℕ) : Type 0 where
   pub place : end ≡ at + length s
   pub bytes : after ≡ sets o at s

@@ -1,4 +1,4 @@
-// Writing the answers of a session. Each function writes from place `at` on, and answers the place behind what it wrote.
+// Writing the answers of a session. Each function writes from place `at` on, and answers the place after what it wrote.
 ghost use mathlib.Core.Path.{_≡_};
 ghost use mathlib.Core.List.{[], _∷_, _++_};
 ghost use Prim.Native.Nat.{_+_, _≤_};

@@ -1,4 +1,4 @@
--- The ideal table in one pass: each record against the identifier before it and the one behind it, round the end. Assumes nothing.
+-- The ideal table in one pass: each record against the identifier before it and the one after it, round the end. Assumes nothing.
 use Prim.Native.Nat.{ℕ, zero, suc, _+_, _*_, _-_, _≤_, _<_}
 use native.Mathlib.Nat.{add-zero}
 use mathlib.Core.Path.{_≡_, refl, sym, ap, ap₂, _∙_}

@@ -1,3 +1,4 @@
 -- Laws that the proofs of this crate cite.
 pub mod Records
 pub mod Ideal
+pub mod Verdicts

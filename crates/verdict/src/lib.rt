@@ -1,13 +1,15 @@
-// What a verdict looks at besides the lists: the pending candidates, and whether the table is ideal. For the crates above.
+// The verdict on a table, and what it looks at besides the lists: the pending candidates, and whether the table is ideal. For the crates above.
 ghost use mathlib.Core.Path.{_≡_};
 ghost use mathlib.Core.Bool.{true};
 ghost use Prim.Native.Nat.{ℕ, _*_, _≤_};
 ghost use lib.ListN.{length};
 ghost use Rattle.model.specs.Lists.{every, rising};
-ghost use Rattle.model.specs.Table.{recordSize, memberOf, membersOf, ids};
-ghost use Rattle.model.specs.Ring.{candidateInside, idealMember};
+ghost use Rattle.model.specs.Table.{recordSize, memberOf, membersOf, membersIn, tableOf, ids};
+ghost use Rattle.model.specs.Ring.{candidateInside, idealMember, principals, verdict};
+ghost use Rattle.table.specs.Formed.{Formed};
+ghost use Rattle.ring.specs.Places.{BestPlaces};
 
-// Lies the candidate of the record at the front, if one is pending, between its member and the first entry?
+// Lies the candidate of the record that the part holds, if one is pending, between its member and the first entry?
 fn candidate_inside(s: &[u32]) -> bool
     requires { ⌜ 5 ≤ length (now s) ⌝ }
     ensures { λ b. ⌜ ((r : ℕ) → 1 ≤ r → b ≡ candidateInside (memberOf r (now (s .entry)))) ⌝ }
@@ -27,7 +29,7 @@ pub fn candidates_inside(s: &[u32], r: usize, n: usize) -> bool
     let mut p = s;
     let mut left = n;
     while 0 < left {
-        if candidate_inside(p) {
+        if candidate_inside(&p[..w]) {
             p = &p[w..];
             left -= 1;
         } else {
@@ -67,4 +69,26 @@ pub fn is_ideal(s: &[u32], r: usize, n: usize) -> bool
         return false;
     }
     p[1] == below
+}
+
+// The verdict on a table with so many principals: 0 not sound, 1 sound, 2 sound and ideal.
+pub fn verdict_of(t: &[u32], best: &[usize; 256], count: usize) -> u32
+    requires { ⌜ Formed (now t) ⌝ }
+    requires { ⌜ BestPlaces (now t) (now best) ⌝ }
+    requires { ⌜ count ≡ principals (membersIn (now t)) ⌝ }
+    ensures { λ v. ⌜ v ≡ verdict (tableOf (now (t .entry))) ⌝ }
+{
+    let r = t[0] as usize;
+    let n = t[1] as usize;
+    if ring::all_live(t, best) {
+        if r < count {
+            if candidates_inside(&t[3..], r, n) {
+                if is_ideal(&t[3..], r, n) {
+                    return 2;
+                }
+                return 1;
+            }
+        }
+    }
+    0
 }

@@ -35,7 +35,7 @@ pub fn read_member(part: &[u32], r: usize) -> Member
     }
 }
 
-// One member's record, written to the front of a part; what stands behind it stays.
+// One member's record, written to the front of a part; what stands after it stays.
 pub fn write_member(part: &mut [u32], m: Member, r: usize)
     requires { ⌜ (r ≤ 8) × (recordSize r ≤ length (now part)) ⌝ }
     ensures { λ _. ⌜ now (part .exit) ≡ recordOf (view r m) ++ drop (recordSize r) (now (part .entry)) ⌝ }
@@ -64,7 +64,7 @@ pub fn open_gap(tail: &mut [u32], used: usize, width: usize)
     }
 }
 
-// The words at the front are closed over: the used words behind them move down, and the words freed become 0.
+// The words at the front are closed over: the used words after them move down, and the words freed become 0.
 pub fn close_gap(tail: &mut [u32], used: usize, width: usize)
     requires { ⌜ (width ≤ used) × (used ≤ length (now tail)) ⌝ }
     ensures { λ _. ⌜ now (tail .exit) ≡ drop width (take used (now (tail .entry))) ++ (replicate width 0 ++ drop used (now (tail .entry))) ⌝ }

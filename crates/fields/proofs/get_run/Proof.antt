@@ -1,4 +1,4 @@
--- `get_run` meets its contract. The loop's invariant: the numbers from i on, placed behind those before, give the whole. Assumes nothing.
+-- `get_run` meets its contract. The loop's invariant: the numbers from i on, placed after those before, give the whole. Assumes nothing.
 use Prim.Native.Nat.{ℕ, _+_, _*_, _-_, _≤_}
 use mathlib.Core.Path.{_≡_, sym, ap, _∙_}
 use native.Mathlib.Omega.{arith}

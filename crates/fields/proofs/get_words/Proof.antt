@@ -1,4 +1,4 @@
--- `get_words` meets its contract: a run of eight, and one behind it. Assumes nothing.
+-- `get_words` meets its contract: a run of eight, and one after it. Assumes nothing.
 use Prim.Native.Nat.{ℕ, _-_}
 use mathlib.Core.List.{List}
 use mathlib.Core.Path.{refl, ap, _∙_}

@@ -1,4 +1,4 @@
--- `put_words` meets its contract. The loop's invariant: the words from i on, placed behind those before, give the whole. Assumes nothing.
+-- `put_words` meets its contract. The loop's invariant: the words from i on, placed after those before, give the whole. Assumes nothing.
 use Prim.Native.Nat.{ℕ, _+_, _*_, _-_, _≤_, _<_}
 use mathlib.Core.List.{List, []}
 use mathlib.Core.Path.{_≡_, sym, ap, _∙_}

@@ -49,6 +49,7 @@ use denote.Exit.{yes}
 use denote.Signature.{plain}
 use Rattle.model.specs.Table.{Member, membersIn, ids}
 use Rattle.model.specs.Findings.{findingOf}
+use Rattle.table.proofs.Tail.{tail}
 use Rattle.finding.specs.declared.Finding.{Finding}
 use Rattle.finding.specs.declared.Survey.{Survey}
 use Rattle.finding.specs.View.{view}
@@ -62,7 +63,6 @@ use Rattle.finding.proofs.finding_at.Symbol as finding-def
 use Rattle.finding.proofs.finding_at.Symbol.{name as #finding·finding-at}
 use Rattle.finding.proofs.finding_at.Met as finding-thm
 use Rattle.findings.specs.Filled.{filled}
-use Rattle.findings.proofs.Tail.{tail}
 use Rattle.findings.proofs.Filling.{Asked, surveyed-at, by-view, filled-length}
 use Rattle.findings.proofs.Rows.{R, S, recordVals, surveyVal, tTy, outTy, members-fit, principal-is, moves-is, record-fits, word-fits}
 use Rattle.findings.proofs.Slots.{wordsTy, Field, field-typed, elements, let-go}

@@ -19,7 +19,7 @@ all-small c =
     let q : 16 + 4 * r ≡ fieldSize r = omega arith in
     rw q (most-due (c .number2 .result) r (omega arith) (omega (arith, c .before .shared-slice-known2 .given 3)))
 
--- what is known behind the first field
+-- what is known after the first field
 known : (c : tie.After-number2) → let a = c .before .before .before .before .before .before .before .before .args in let w = 16 + 4 * getD (a .image .now) 3 0 in Behind (a .image .now) (a .at) (c .number2 .result * w) w
 known c =
     let o = c .before .before .before .before in

@@ -1,4 +1,4 @@
--- `write_table` meets its contract. The invariants: the header and the first i records stand in front, and the words behind the table are the old
+-- `write_table` meets its contract. The invariants: the header and the first i records stand in front, and the words after the table are the old
 -- ones; in the second loop, they stand over the words that the first has left. Assumes nothing.
 use Prim.Native.Nat.{_+_, _-_, _≤_}
 use mathlib.Core.Path.{_≡_, refl, _∙_}

@@ -19,7 +19,7 @@ start o = o .before .before .before .before .before .before .before
 eight : (s : tie.Start) → length (s .args .m .successors) ≡ 8
 eight s = search needs
 
--- the place is within the records, and there is room behind them
+-- the place is within the records, and there is room after them
 room : (o : tie.After-offset2) → let t = start o .args .t .now in (o .before .offset .result ≤ o .offset2 .result) × (o .offset2 .result + recordSize (getD t 0 0) ≤ length t)
 room o =
     let s = start o in

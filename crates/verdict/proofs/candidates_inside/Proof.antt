@@ -1,13 +1,14 @@
 -- `candidates_inside` meets its contract. The invariant: the records left answer as all do. Assumes nothing.
 use Prim.Native.Nat.{_*_, _≤_}
-use mathlib.Core.Path.{_≡_, _∙_}
+use mathlib.Core.Path.{_≡_, sym, ap, _∙_}
 use native.Mathlib.Omega.{arith}
 use lib.ListN.{length}
+use lib.Seq.{length-take-le}
 use borrow.Author.Needs.{needs}
 use Rattle.model.specs.Lists.{every}
-use Rattle.model.specs.Table.{recordSize, membersOf}
+use Rattle.model.specs.Table.{recordSize, memberOf, membersOf}
 use Rattle.model.specs.Ring.{candidateInside}
-use Rattle.laws.specs.Parts.{part-from, one-fits, rest-fits}
+use Rattle.laws.specs.Parts.{part-from, one-fits, rest-fits, member-part}
 use Rattle.verdict.proofs.Records.{inside-here, inside-on}
 use Rattle.verdict.proofs.candidates_inside.Statement.{statement}
 use Rattle.verdict.proofs.candidates_inside.Tie as tie
@@ -21,27 +22,36 @@ abbrev μ-loop : tie.MeasureT-loop
 one : (c : tie.In-loop Inv-loop μ-loop) → recordSize (c .before .before .before .args .r) ≤ length (c .before .loop .p .now)
 one c = one-fits (c .before .before .before .args .r) (c .before .loop .left) (c .before .loop .p .now) (omega arith) (c .before .loop .inv .0)
 
+slice-aggregate-candidate-inside : tie.Need-slice-aggregate-candidate-inside Inv-loop μ-loop
+slice-aggregate-candidate-inside c = sym (length-take-le _ _ (one (c .before)))
+
 candidate-inside-requires : tie.Need-candidate-inside-requires Inv-loop μ-loop
-candidate-inside-requires c κs = omega (arith, one c)
+candidate-inside-requires c κs = rw (length-take-le _ _ (one (c .before))) (omega arith)
+
+-- the record's part answers as the table does
+same-test : (c : tie.After-candidate-inside Inv-loop μ-loop) → c .candidate-inside .result ≡ candidateInside (memberOf (c .before .before .before .before .before .args .r) (c .before .before .before .loop .p .now))
+same-test c =
+    let r = c .before .before .before .before .before .args .r in
+    c .candidate-inside .ensures r (search needs) ∙ ap candidateInside (member-part r (c .before .before .before .loop .p .now))
 
 sub-p : tie.Need-sub-p Inv-loop μ-loop
-sub-p c = one (c .before .before)
+sub-p c = one (c .before .before .before)
 
 part-p-start : tie.Need-part-p-start Inv-loop μ-loop
-part-p-start c = one (c .before .before)
+part-p-start c = one (c .before .before .before)
 
 loop-again : tie.Need-loop-again Inv-loop μ-loop
 loop-again c =
-    let i = c .before .before .before in
+    let i = c .before .before .before .before in
     let k = i .before .loop in
     let a = i .before .before .before .args in
-    (rw part-from (rest-fits (a .r) (k .left) (k .p .now) (omega arith) (k .inv .0)), rw part-from (inside-on (a .r) (k .left) (k .p .now) _ (omega arith) (c .before .before .candidate-inside .ensures (a .r) (search needs)) (c .before .if1 .taken) ∙ k .inv .1))
+    (rw part-from (rest-fits (a .r) (k .left) (k .p .now) (omega arith) (k .inv .0)), rw part-from (inside-on (a .r) (k .left) (k .p .now) _ (omega arith) (same-test (c .before .before)) (c .before .if1 .taken) ∙ k .inv .1))
 
 returns : tie.Need-returns Inv-loop μ-loop
 returns c =
-    let i = c .before .before in
+    let i = c .before .before .before in
     let k = i .before .loop in
-    inside-here (i .before .before .before .args .r) (k .left) (k .p .now) _ (omega arith) (c .before .candidate-inside .ensures (i .before .before .before .args .r) (search needs)) (c .if1 .left) ∙ k .inv .1
+    inside-here (i .before .before .before .args .r) (k .left) (k .p .now) _ (omega arith) (same-test (c .before)) (c .if1 .left) ∙ k .inv .1
 
 returns-2 : tie.Need-returns-2 Inv-loop μ-loop
 returns-2 c =
@@ -51,4 +61,4 @@ returns-2 c =
 
 pub candidates-inside-spec : {M : Type 1} → statement M
 candidates-inside-spec =
-    tie.close (tie.spec Inv-loop μ-loop (λ c. search needs) (λ c. search needs) candidate-inside-requires (λ c. search needs) sub-p part-p-start (λ c. search needs) (λ c. search needs) (λ c. search needs) loop-again returns returns-2)
+    tie.close (tie.spec Inv-loop μ-loop (λ c. search needs) (λ c. search needs) slice-aggregate-candidate-inside candidate-inside-requires (λ c. search needs) sub-p part-p-start (λ c. search needs) (λ c. search needs) (λ c. search needs) loop-again returns returns-2)

@@ -26,7 +26,7 @@ last c = omega (arith, one-of (c .before .args .n) (recordSize (c .before .args 
 one : (c : tie.At-loop Inv-loop μ-loop) → recordSize (c .before .before .before .before .args .r) ≤ length (c .loop .p .now)
 one c = one-fits (c .before .before .before .before .args .r) (c .loop .left) (c .loop .p .now) (c .loop .inv .0) (c .loop .inv .1)
 
--- and in the loop a word behind it
+-- and in the loop a word after it
 two : (c : tie.In-loop Inv-loop μ-loop) → recordSize (c .before .before .before .before .before .args .r) < length (c .before .loop .p .now)
 two c =
     let k = c .before .loop in

@@ -1,4 +1,4 @@
--- `write_member` meets its contract. The loop's invariant: behind the four words, the first i entries are copied. Assumes nothing.
+-- `write_member` meets its contract. The loop's invariant: after the four words, the first i entries are copied. Assumes nothing.
 use Prim.Native.Nat.{_-_, _≤_}
 use mathlib.Core.Path.{_≡_, refl, _∙_}
 use native.Mathlib.Numerals.{add-one}

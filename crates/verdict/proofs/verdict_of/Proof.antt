@@ -10,9 +10,9 @@ use Rattle.model.specs.Lists.{every}
 use Rattle.model.specs.Table.{membersOf, membersIn, tableOf, ids}
 use Rattle.model.specs.Ring.{hasLive, candidateInside, principals, idealMember, ideal}
 use Rattle.laws.specs.Parts.{part-from}
-use Rattle.audit.proofs.Verdicts.{verdict-ideal, verdict-sound, verdict-outside, verdict-few, verdict-cut-off}
-use Rattle.audit.proofs.verdict_of.Statement.{statement}
-use Rattle.audit.proofs.verdict_of.Tie as tie
+use Rattle.verdict.proofs.Verdicts.{verdict-ideal, verdict-sound, verdict-outside, verdict-few, verdict-cut-off}
+use Rattle.verdict.proofs.verdict_of.Statement.{statement}
+use Rattle.verdict.proofs.verdict_of.Tie as tie
 
 -- what each test says of the whole table
 lively : (c : tie.Then1) → let ms = membersIn (c .before .before .before .before .before .args .t .now) in every (hasLive ms) ms ≡ true
