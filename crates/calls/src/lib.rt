@@ -1,8 +1,11 @@
-// The seven calls as one type, and one function over them: what demand 3 is about.
+// The seven calls as one type, one function over them, and one over a list of them, with demand 3 in its contract.
+// The borrow checker covers no slice of enums: `apply_all` is proved by hand, and leaves all else to `apply`.
 ghost use mathlib.Core.Path.{_≡_};
-ghost use Rattle.model.specs.Run.{callAnswer, callWords};
+ghost use mathlib.Core.List.{map};
+ghost use Rattle.model.specs.Run.{callAnswer, callWords, run};
+ghost use Rattle.theory.specs.Claim.{Holds};
 ghost use Rattle.reply.specs.Answers.{answerOf};
-ghost use Rattle.calls.specs.Calls.{callOf};
+ghost use Rattle.calls.specs.Calls.{callOf, Begins};
 use reply::Reply;
 
 // A call of a member: withdrawal is Leave, loss is Fail, find is Lookup.
@@ -28,5 +31,17 @@ pub fn apply(t: &mut [u32], c: Call) -> Reply
         Call::Rectify(n, q) => rectify::rectify(t, n, q),
         Call::Lookup(n, k) => lookup::lookup(t, n, k),
         Call::Audit => audit::audit(t),
+    }
+}
+
+// The calls on the table, one after the other, each on what the last one left. From a sound table, with each loss granted, the ring never splits.
+pub fn apply_all(t: &mut [u32], cs: &[Call])
+    ensures { λ _. ⌜ (now (t .exit) ≡ run (map callOf (now (cs .entry))) (now (t .entry))) × (Begins (now (cs .entry)) (now (t .entry)) → Holds (now (t .exit))) ⌝ }
+{
+    let mut i: usize = 0;
+    while i < cs.len() {
+        let c = cs[i];
+        apply(t, c);
+        i += 1;
     }
 }

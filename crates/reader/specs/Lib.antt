@@ -1,2 +1,3 @@
--- What the contracts of this crate cite besides the model.
+-- What the contracts of this crate cite besides the model, and what that means for the bytes of an image.
 pub mod Read
+pub mod Contents

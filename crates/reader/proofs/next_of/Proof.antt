@@ -26,7 +26,7 @@ returns-2 c = rw (c .before .f2 .given .1)
 
 -- any other
 returns-3 : tie.Need-returns-3
-returns-3 c = others (c .before .args .f) (c .before .args .at) (λ start size next. next) (c .match .keys3)
+returns-3 c = others (c .before .args .f) (c .before .args .at) _ (c .match .keys3)
 
 pub next-of-spec : {M : Type 1} → statement M
 next-of-spec =
