@@ -1,13 +1,16 @@
-/* The ring table of networked archive shelves: the calls for C.
+/* The ring table of networked archive shelves: the calls for C. docs/CLAIMS.md names, sentence by sentence, what proves this page.
 
-   A table is a slice of 32-bit words that the caller lends, as a pointer and a count of words: a header of three words (r, member count,
-   step count), then one record of r + 4 words a member: identifier, predecessor, pending, candidate and r successors, by rising
-   identifier. Words behind the last record are the caller's. RING_TABLE_WORDS(r, members) says how many words a table takes; 3,075 words
-   hold every table. A call reads and writes nothing outside the slices it is lent, returns for every input, and never keeps a pointer.
-   Pointers are never null, also where a count is 0. Slices of one call must not overlap where one of them is written.
+   The table. A table is a slice of 32-bit words that the caller lends, as a pointer and a count of words: a header of three words (r, member
+   count, step count), then one record of r + 4 words a member: identifier, predecessor, pending, candidate and r successors, by rising
+   identifier. RING_TABLE_WORDS(r, members) says how many words a table takes; 3,075 words hold every table. Words after the last record
+   belong to nobody: a join takes the next r + 4 of them, a loss or a withdrawal makes the r + 4 that it frees 0. Keep nothing there.
 
-   Every call answers in numbers. number is 0 and values holds the reply, unused values 0; or number is the refusal below, and then every
-   buffer is as it was. The lowest number that applies is given, but ring_new tries 11 before 10.
+   Slices. A call reads and writes nothing outside the slices it is lent, returns for every input, and never keeps a pointer. What the
+   caller owes: no pointer is null, also where a count is 0; pointers to words and to findings are aligned for uint32_t; each slice has as
+   many elements as its count says; slices of one call do not overlap where one of them is written; nobody else writes a slice during a call.
+
+   Answers. number is 0 and values holds the reply, unused values 0; or number is the refusal below, and then every buffer is as it was.
+   The lowest number that applies is given, but ring_new tries 11 before 10.
 
       1  a table is not well-formed or longer than its slice
       2  the joining identifier is a member
@@ -21,8 +24,32 @@
      10  the output slice is too short
      11  new: r not 1 to 8, identifiers not strictly rising, fewer than r + 1, more than 256
 
-   From a sound table (ring_audit's verdict 1 or 2) no list of these calls leads to a ring that is split, as long as each ring_fail is one
-   that ring_leave would have granted in its place. */
+   One ring. The promise is about seven calls: ring_join, ring_leave, ring_fail, ring_stabilize, ring_rectify, ring_lookup and ring_audit.
+   From a sound table (ring_audit's verdict 1 or 2) every list of them, refused ones included, leads to a sound table, and on a sound table
+   the first live entries form exactly one ring; as long as each accepted ring_fail is one that ring_leave would have granted in its place,
+   and nobody else writes the table. A loss that was not such a one is seen by an audit right after it: the verdict is 0. ring_new
+   starts with verdict 2. ring_image_read promises nothing of the ring: the image of a table with two rings is an image, and is read.
+   Audit after reading.
+
+   Stack. How many bytes of stack each call took where it went deepest, its return address included, rounded up: measured on painted stacks,
+   with small and full tables, accepted and refused by each number (tests/c/stack.c). Keep some more free. No call takes any other memory.
+
+      ring_new          128
+      ring_join         192
+      ring_stabilize    256
+      ring_rectify      192
+      ring_fail         128
+      ring_leave      23808
+      ring_lookup       192
+      ring_audit      14592
+      ring_findings   16640
+      ring_alike        128
+      ring_take_over     64
+      ring_image_write  128
+      ring_image_read   128
+      ring_image_field   64
+
+   The archive is built for x86-64 Linux (System V calling convention), and needs memcpy and memset of the C library, and nothing else. */
 
 #ifndef RING_H
 #define RING_H
@@ -53,7 +80,7 @@ struct ring_finding {
     uint32_t moves;
 };
 
-/* The new, ideal table of r and count strictly rising identifiers, step count 0. The old words are never looked at; words behind the last
+/* The new, ideal table of r and count strictly rising identifiers, step count 0. The old words are never looked at; words after the last
    record stay. values: member count. 11, 10. */
 struct ring_answer ring_new(uint32_t *table, size_t words, uint32_t r, const uint32_t *ids, size_t count);
 
@@ -63,7 +90,10 @@ struct ring_answer ring_join(uint32_t *table, size_t words, uint32_t j, uint32_t
 
 /* One stabilize step of n, which adds 1 to the step count (up to 4294967295).
    values: {0} again: a dead first entry was dropped, call once more; {1, c} look: c is to be looked at by the next call; {2, h} done: shelf h is
-   to be notified (ring_rectify h with a notice from n). 1, 3. */
+   to be notified (ring_rectify h with a notice from n). 1, 3.
+   On a sound table the steps of one member, with no other call between them, say again at most r - 1 times, then look at most once, then
+   done: r + 1 steps are enough. On a table that is not sound nothing bounds the agains but the identifiers: a lone member with r = 1 can say
+   again 4294967295 times in a row. So bound the loop, as tests/c/firmware.c does. */
 struct ring_answer ring_stabilize(uint32_t *table, size_t words, uint32_t n);
 
 /* n takes a notice from q. values: {1} if q was written as n's predecessor, {0} if not. 1, 3. */
@@ -96,7 +126,7 @@ struct ring_answer ring_take_over(uint32_t own, uint32_t h, uint32_t c, const ui
 /* Writes the image of the table. values: bytes written; later bytes stay. 1, 10. */
 struct ring_answer ring_image_write(const uint32_t *table, size_t words, uint8_t *image, size_t bytes);
 
-/* Reads a whole image into a slice, whose old words are never looked at; words behind the last record stay. values: member count. 9, 10. */
+/* Reads a whole image into a slice, whose old words are never looked at; words after the last record stay. values: member count. 9, 10. */
 struct ring_answer ring_image_read(uint32_t *table, size_t words, const uint8_t *image, size_t bytes);
 
 /* The field at a position of an image. values: tag, start of its contents, their length, position of the next field. Fields stand at

@@ -37,7 +37,7 @@ pub enum Call {
     ImageWrite,
     #[cfg(feature = "whole")]
     ImageRead,
-    /// No call, but the copying back that the case LeaveOk does behind each call.
+    /// No call, but the copying back that the case LeaveOk does after each call.
     Restore,
 }
 

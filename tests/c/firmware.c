@@ -28,17 +28,32 @@ static void expect_true(const char *what, int holds)
     }
 }
 
-/* One round of a shelf: stabilize steps until done, then the notice to the shelf named. A notice to no member is refused, and lost. */
-static void round_of(uint32_t *table, size_t words, uint32_t n)
+/* One round of a shelf: stabilize steps until done, then the notice to the shelf named; a notice to no member is refused, and lost.
+   r + 1 steps are enough on a sound table; on another they end the round all the same. Returns the steps made, 0 where done did not come. */
+static uint32_t round_of(uint32_t *table, size_t words, uint32_t n)
 {
-    for (;;) {
+    const uint32_t most = table[0] + 1;
+    uint32_t step;
+    for (step = 1; step <= most; step++) {
         struct ring_answer a = ring_stabilize(table, words, n);
-        if (a.number != 0) return;
+        if (a.number != 0) return 0;
         if (a.values[0] == 2) {
             ring_rectify(table, words, a.values[1], n);
-            return;
+            return step;
         }
     }
+    return 0;
+}
+
+/* Again and again: on a lone member with r = 1 whose only entry is dead, each step tries the next identifier, and says again until it comes to
+   the member itself. Nothing else ends it: from the identifier after the member's own it would take 4294967295 steps. */
+static uint32_t agains(uint32_t *table, size_t words, uint32_t before)
+{
+    const uint32_t lone[] = {1, 1, 0, 7, 7, 0, 0, 7 - before};
+    uint32_t count = 0;
+    memcpy(table, lone, sizeof lone);
+    while (count <= before && ring_stabilize(table, words, 7).values[0] == 0) count++;
+    return count;
 }
 
 int main(void)
@@ -49,7 +64,7 @@ int main(void)
     const size_t words = RING_TABLE_WORDS_MOST;
     const uint32_t ids[] = {10, 20, 30, 40};
     struct ring_answer a;
-    size_t i, bytes, at;
+    size_t i, bytes, at, late = 0;
 
     expect_true("sizes", sizeof(struct ring_answer) == 20 && sizeof(struct ring_finding) == 12);
 
@@ -72,9 +87,10 @@ int main(void)
     /* Churn: shelves join one after the other, and the ring settles; two rounds more bring the second entries up to date. */
     for (i = 0; i < 100; i++) ring_join(table, words, 1000 + 7 * (uint32_t)i, i == 0 ? 40 : 1000 + 7 * ((uint32_t)i - 1));
     for (i = 0; i < 1000 && ring_audit(table, words).values[3] != 2; i++)
-        for (at = 0; at < table[1]; at++) round_of(table, words, table[3 + at * 6]);
+        for (at = 0; at < table[1]; at++) late += round_of(table, words, table[3 + at * 6]) == 0;
     for (i = 0; i < 2; i++)
-        for (at = 0; at < table[1]; at++) round_of(table, words, table[3 + at * 6]);
+        for (at = 0; at < table[1]; at++) late += round_of(table, words, table[3 + at * 6]) == 0;
+    expect_true("done within r + 1 steps", late == 0);
     expect("settled", ring_audit(table, words), 0, 104, 104, 104, 2);
 
     /* Saved, looked at field by field, and restored. */
@@ -105,6 +121,25 @@ int main(void)
         expect("take over c", ring_take_over(20, 30, 25, h_list, 3, c_list, 2), 0, 1, 1, 0, 0);
         expect("take over h", ring_take_over(20, 30, 35, h_list, 3, c_list, 2), 0, 0, 2, 0, 0);
         expect("c timed out", ring_take_over(20, 30, 25, h_list, 3, c_list, 0), 0, 0, 2, 0, 0);
+    }
+
+    /* On a table that is not sound only the identifiers bound the agains. */
+    expect_true("again until the member itself", agains(other, words, 100000) == 100000);
+    expect("not sound", ring_audit(other, words), 0, 1, 1, 1, 0);
+
+    /* A loss that no withdrawal would have been granted: the audit right after it says 0. */
+    ring_new(other, words, 2, ids, 3);
+    expect("leave is not granted", ring_leave(other, words, 20), 7, 0, 0, 0, 0);
+    expect("the loss happens all the same", ring_fail(other, words, 20), 0, 2, 0, 0, 0);
+    expect("and the verdict is 0", ring_audit(other, words), 0, 2, 2, 2, 0);
+
+    /* The image of two rings, 10 and 30, 20 and 40, is the writing of a well-formed table. It is read, and the audit says 0. */
+    {
+        const uint32_t two[] = {1, 4, 0, 10, 30, 0, 0, 30, 20, 40, 0, 0, 40, 30, 10, 0, 0, 10, 40, 20, 0, 0, 20};
+        memcpy(other, two, sizeof two);
+        expect("an image of two rings", ring_image_write(other, words, image, sizeof image), 0, RING_IMAGE_BYTES(1, 4), 0, 0, 0);
+        expect("is read", ring_image_read(other, words, image, RING_IMAGE_BYTES(1, 4)), 0, 4, 0, 0, 0);
+        expect("and not sound", ring_audit(other, words), 0, 4, 0, 4, 0);
     }
 
     /* Refusals. */

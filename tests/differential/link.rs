@@ -20,7 +20,7 @@ pub fn link_archive() -> bool {
     println!("cargo:rerun-if-changed={}", archive.display());
     println!("cargo:rustc-link-search=native={}", folder.display());
     if std::env::var("CARGO_CFG_TARGET_OS").is_ok_and(|os| os == "linux") {
-        // Behind the standard library, and with doubles allowed: an archive
+        // After the standard library, and with doubles allowed: an archive
         // without the standard library may bring a panic handler of its own.
         println!("cargo:rustc-link-arg-bins=-Wl,--allow-multiple-definition");
         println!("cargo:rustc-link-arg-bins=-l:{file}");

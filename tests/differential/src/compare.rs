@@ -33,8 +33,8 @@ pub const NAMES: [&str; 14] = [
     "image_field",
 ];
 
-/// An input or output slice: the first `len` elements of `all` are lent. Those
-/// behind stand right after the slice, where a call that goes past the end
+/// An input or output slice: the first `len` elements of `all` are lent. The
+/// others stand right after the slice, where a call that goes past the end
 /// would meet them.
 #[derive(Clone, Debug)]
 pub struct Piece<T> {

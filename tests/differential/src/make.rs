@@ -262,7 +262,7 @@ pub fn tiny(random: &mut Random) -> (Raw, Vec<u32>) {
     (raw, pool)
 }
 
-/// A slice for a well-formed table, with more or less room behind it.
+/// A slice for a well-formed table, with more or less room after it.
 pub fn with_room(random: &mut Random, words: &[u32], width: usize) -> Piece<u32> {
     let room = match random.below(8) {
         0 => 0,
@@ -328,7 +328,7 @@ pub fn malformed(random: &mut Random) -> Piece<u32> {
             raw.records[i].pending = 0;
             raw.records[i].candidate = random.pick(&[1, u32::MAX, raw.records[i].list[0]]);
         }
-        // Cut near its end or anywhere, with the rest behind the slice.
+        // Cut near its end or anywhere, with the rest after the slice.
         _ => {
             let words = raw.words();
             let len = match random.below(3) {

@@ -383,10 +383,10 @@ fn new(compare: &mut Compare, random: &mut Random) -> Result {
             }
             _ => {}
         }
-        // More identifiers stand behind the lent ones.
-        let mut behind = ids.clone();
-        behind.extend(ids.last().map_or([7, 8], |l| [l.wrapping_add(1), l.wrapping_add(2)]));
-        let ids = Piece::cut(&behind, n);
+        // More identifiers stand after the lent ones.
+        let mut more = ids.clone();
+        more.extend(ids.last().map_or([7, 8], |l| [l.wrapping_add(1), l.wrapping_add(2)]));
+        let ids = Piece::cut(&more, n);
         let needed = 3 + n * (r.min(12) as usize + 4);
         for len in near(random, needed) {
             let words = make::junk(random, len + 4);

@@ -68,7 +68,7 @@ pub fn image(compare: &mut Compare, random: &mut Random) -> Result {
     read_image(compare, random, &image)?;
     read_fields(compare, random, &image)?;
 
-    // Cut short, with the rest behind the slice.
+    // Cut short, with the rest after the slice.
     let record = 16 + 4 * raw.r as usize;
     for len in 0..whole.len() {
         let from_border = (len + record - 10 % record) % record;

@@ -86,7 +86,7 @@ pub fn join(table: &mut [u32], j: u32, p: u32) -> Answer {
     yes(table[1], 0, 0, 0)
 }
 
-/// Puts h in front of the list at `to`, with the list at `from` behind it.
+/// Puts h in front of the list at `to`, with the list at `from` after it.
 fn take(table: &mut [u32], to: usize, from: usize) {
     let h = id(table, from);
     let (o, source) = (offset(table, to) + 4, offset(table, from) + 4);
@@ -274,9 +274,9 @@ pub fn lookup(table: &[u32], n: u32, k: u32) -> Answer {
     no(0)
 }
 
-/// The slice and the word behind it, which only a planted fault touches.
+/// The slice and the word after it, which only a planted fault touches.
 fn one_more(table: &[u32]) -> &[u32] {
-    // Every slice of the harness has a guard behind it.
+    // Every slice of the harness has a guard after it.
     unsafe { std::slice::from_raw_parts(table.as_ptr(), table.len() + 1) }
 }
 

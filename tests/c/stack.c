@@ -1,0 +1,187 @@
+/* How much stack each call of include/ring.h takes: the call runs on a stack of its own that was painted before, and the lowest byte that lost
+   its paint tells how deep the call went. Each call is made on small and full tables, until it has been accepted and refused by each of its
+   numbers, and its deepest use is printed: 'ring_x BYTES', a line a call. tests/c/run holds the lines to the header's table. */
+
+#define _XOPEN_SOURCE 700
+#include "ring.h"
+#include <stdio.h>
+#include <stdlib.h>
+#include <string.h>
+#include <ucontext.h>
+
+enum { STACK = 1 << 16, PAINT = 0xa5, CALLS = 14 };
+
+static const char *const names[CALLS] = {"ring_new",        "ring_join",        "ring_stabilize",  "ring_rectify",    "ring_fail",
+                                         "ring_leave",      "ring_lookup",      "ring_audit",      "ring_findings",   "ring_alike",
+                                         "ring_take_over",  "ring_image_write", "ring_image_read", "ring_image_field"};
+
+/* The numbers that each call can answer, a bit each. */
+#define BIT(n) (1u << (n))
+static const uint32_t numbers[CALLS] = {
+    BIT(0) | BIT(10) | BIT(11), /* new */
+    BIT(0) | BIT(1) | BIT(2) | BIT(3) | BIT(4) | BIT(5),
+    BIT(0) | BIT(1) | BIT(3), /* stabilize */
+    BIT(0) | BIT(1) | BIT(3),
+    BIT(0) | BIT(1) | BIT(3), /* fail */
+    BIT(0) | BIT(1) | BIT(3) | BIT(6) | BIT(7),
+    BIT(0) | BIT(1) | BIT(3) | BIT(8), /* lookup */
+    BIT(0) | BIT(1),
+    BIT(0) | BIT(1) | BIT(10), /* findings */
+    BIT(0) | BIT(1),
+    BIT(0), /* take_over */
+    BIT(0) | BIT(1) | BIT(10),
+    BIT(0) | BIT(9) | BIT(10), /* image_read */
+    BIT(0) | BIT(9),
+};
+
+static unsigned char painted[STACK];
+static ucontext_t back, there;
+static size_t deepest[CALLS];
+static uint32_t met[CALLS], replies; /* the numbers answered; the replies of stabilize: again, look, done */
+
+static uint32_t table[RING_TABLE_WORDS_MOST], other[RING_TABLE_WORDS_MOST];
+static uint8_t image[RING_IMAGE_BYTES_MOST];
+static struct ring_finding findings[256];
+static uint32_t ids[256];
+static size_t words = RING_TABLE_WORDS_MOST;
+
+/* What the call on the painted stack is to do, and what it answered. */
+static int call;
+static uint32_t r, a, b;
+static size_t count, bytes, at;
+static volatile uintptr_t top;
+static struct ring_answer answer;
+
+static struct ring_answer make(void)
+{
+    switch (call) {
+    case 0: return ring_new(table, words, r, ids, count);
+    case 1: return ring_join(table, words, a, b);
+    case 2: return ring_stabilize(table, words, a);
+    case 3: return ring_rectify(table, words, a, b);
+    case 4: return ring_fail(table, words, a);
+    case 5: return ring_leave(table, words, a);
+    case 6: return ring_lookup(table, words, a, b);
+    case 7: return ring_audit(table, words);
+    case 8: return ring_findings(table, words, findings, count);
+    case 9: return ring_alike(table, words, other, words);
+    case 10: return ring_take_over(a, b, r, ids, count, ids, count);
+    case 11: return ring_image_write(table, words, image, bytes);
+    case 12: return ring_image_read(other, words, image, bytes);
+    default: return ring_image_field(image, bytes, at);
+    }
+}
+
+/* The caller's own frame lies above `top`; what the call takes, its return address included, lies below. */
+static void on_painted(void)
+{
+    volatile char here = 0;
+    top = (uintptr_t)&here;
+    answer = make();
+}
+
+/* Makes the call and keeps its depth; returns what it answered. */
+static struct ring_answer run(int c)
+{
+    size_t low, used;
+    call = c;
+    memset(painted, PAINT, sizeof painted);
+    if (getcontext(&there) != 0) exit(2);
+    there.uc_stack.ss_sp = painted;
+    there.uc_stack.ss_size = sizeof painted;
+    there.uc_link = &back;
+    makecontext(&there, on_painted, 0);
+    if (swapcontext(&back, &there) != 0) exit(2);
+    for (low = 0; low < sizeof painted && painted[low] == PAINT;) low++;
+    used = (size_t)(top - (uintptr_t)&painted[low]);
+    if (low == 0 || used > sizeof painted) {
+        printf("%s: more than the painted stack\n", names[c]);
+        exit(1);
+    }
+    if (used > deepest[c]) deepest[c] = used;
+    met[c] |= BIT(answer.number);
+    if (c == 2 && answer.number == 0) replies |= BIT(answer.values[0]);
+    return answer;
+}
+
+static void on(uint32_t of_r, size_t members, uint32_t gap)
+{
+    size_t i;
+    for (i = 0; i < 256; i++) ids[i] = (uint32_t)i * gap;
+    r = of_r, count = members;
+    run(0);
+}
+
+/* Every call on a ring of so many members; ends with a table that is none. */
+static void every(uint32_t of_r, size_t members)
+{
+    const uint32_t gap = 1000, last = (uint32_t)(members - 1) * gap;
+    const size_t field = RING_IMAGE_BYTES(of_r, 1) - RING_IMAGE_BYTES(of_r, 0);
+    int c;
+    on(of_r, 1, gap);
+    words = 3, on(of_r, members, gap);
+    words = RING_TABLE_WORDS_MOST, on(of_r, members, gap);
+    run(7);
+    count = 256, run(8);
+    count = 0, run(8);
+    bytes = 0, run(11);
+    bytes = sizeof image, run(11);
+    bytes = RING_IMAGE_BYTES(of_r, members), run(12);
+    words = 3, run(12);
+    words = RING_TABLE_WORDS_MOST, run(9);
+    for (at = 0; at <= bytes; at += at == 0 ? 10 : field) run(13);
+    at = 1, run(13);
+    bytes--, run(12);
+    a = 0, b = last, run(6);
+    a = 0, b = 1, run(6);
+    a = 1, run(6);
+    a = 1, b = 0, run(1); /* accepted, or 5 on a full table */
+    a = 0, b = 0, run(1);
+    a = 2, b = 3, run(1);
+    a = last + 1, b = 0, run(1);
+    words = RING_TABLE_WORDS(of_r, members + 1), a = last + 1, b = last, run(1);
+    words = RING_TABLE_WORDS_MOST;
+    a = 1, run(2);
+    a = gap, b = 1, run(3);
+    a = gap, b = 0, run(3);
+    a = 1, b = 0, run(3);
+    for (a = 0; a <= last; a += gap) run(2);
+    for (a = 0; a <= last; a += gap) run(2);
+    a = gap, run(5);
+    a = 3, run(5);
+    for (a = 0; a <= last; a += gap) run(5);
+    a = last, run(4);
+    a = 3, run(4);
+    for (a = 0; a <= last; a += gap) run(2);
+    for (a = gap; a <= last; a += gap) run(4);
+    a = 0, b = 1, run(6);
+    run(7);
+    count = 256, run(8);
+    a = 10, b = 30, r = 20, count = 256, run(10);
+    r = 40, count = 0, run(10);
+    table[0] = 9, count = 256, bytes = sizeof image, a = 0, b = 0;
+    for (c = 1; c <= 11; c++) run(c);
+}
+
+int main(void)
+{
+    uint32_t of_r;
+    int c, missing = 0;
+    for (of_r = 1; of_r <= 8; of_r++) {
+        every(of_r, of_r + 1);
+        every(of_r, 255);
+        every(of_r, 256);
+    }
+    for (c = 0; c < CALLS; c++) {
+        printf("%s %lu\n", names[c], (unsigned long)deepest[c]);
+        if (met[c] != numbers[c]) {
+            printf("%s: the numbers %x were met, and not %x\n", names[c], met[c], numbers[c]);
+            missing = 1;
+        }
+    }
+    if (replies != (BIT(0) | BIT(1) | BIT(2))) {
+        printf("ring_stabilize: the replies %x were met\n", replies);
+        missing = 1;
+    }
+    return missing;
+}
