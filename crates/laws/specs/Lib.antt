@@ -10,4 +10,5 @@ pub mod Removed
 pub mod Parts
 pub mod Accepted
 pub mod Stabilize
+pub mod Verdicts
 pub mod Bytes

@@ -5,7 +5,7 @@ use mathlib.Core.List.{List, [], _∷_, _++_, map}
 use lib.ListN.{length, replicate}
 use Rattle.model.specs.Lists.{bit}
 use Rattle.model.specs.Identifier.{between, after}
-use Rattle.model.specs.Table.{membersIn, wellFormed, formed, formedMember}
+use Rattle.model.specs.Table.{membersIn, wordsOf, wellFormed, formed, formedMember}
 use Rattle.model.specs.Ring.{named, sound, candidateInside}
 use Rattle.model.specs.Steps.{stabilize, stabilizeReply, nextStep}
 use Rattle.model.specs.New.{newTable}
@@ -23,7 +23,7 @@ c gives e = record { computed = c; expected = e }
 
 -- a slice with a lone member, 50, whose list is l: no other identifier is a member's
 abbrev pub lone : List ℕ → List ℕ
-lone l = length l ∷ 1 ∷ 0 ∷ 50 ∷ 50 ∷ 0 ∷ 0 ∷ l
+lone l = wordsOf (record { r = length l; steps = 0; members = record { id = 50; predecessor = 50; pending = 0; candidate = 0; successors = l } ∷ [] })
 
 -- what its stabilize step replies, and its list afterwards
 abbrev pub stepped : List ℕ → List ℕ

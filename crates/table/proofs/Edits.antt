@@ -11,8 +11,7 @@ use Rattle.model.specs.Lists.{overlay}
 use Rattle.model.specs.Table.{Member, Table, headerSize, recordSize, recordOf, membersOf, membersIn, recordsOf, tableOf, wordsOf}
 use Rattle.model.specs.Steps.{inserted, replaced, withMembers, without}
 use Rattle.model.specs.Calls.{written, writtenFreed}
-use Rattle.words.proofs.Gaps.{drop-take}
-use Rattle.laws.specs.Parts.{part-from}
+use Rattle.laws.specs.Parts.{drop-take, part-from}
 use Rattle.laws.specs.Words.{members-length, records-written}
 use Rattle.table.proofs.Members.{span, members-take, members-drop, records-append}
 use Rattle.table.proofs.Place.{At, Gap, within-count, replaced-at, removed-at, inserted-at}
@@ -113,4 +112,4 @@ remove-words (header a b d body) x at end k ys g ea ee fits ey =
     let u′ : w + (b - suc k) * w - w ≡ (b - suc k) * w = omega arith in
     let zs : List ℕ = replicate w 0 in
     let e : k * w + w ≡ suc k * w = omega arith in
-    rw (tail-back at ws ys, ey, part-from at ws, u, ea′, drop-take (drop (k * w) body) (w + (b - suc k) * w) w (omega arith), u′, drop-drop w (k * w) body, e, drop-drop (w + (b - suc k) * w) (k * w) body, removed-at g) (edited a b d b k (suc k) [] zs body (omega arith) kb (omega arith) [] (b - 1) (k * w + (w + (b - suc k) * w)) refl (omega arith) (simp length-replicate (omega arith)))
+    rw (tail-back at ws ys, ey, part-from at ws, u, ea′, drop-take w (w + (b - suc k) * w) (drop (k * w) body), u′, drop-drop w (k * w) body, e, drop-drop (w + (b - suc k) * w) (k * w) body, removed-at g) (edited a b d b k (suc k) [] zs body (omega arith) kb (omega arith) [] (b - 1) (k * w + (w + (b - suc k) * w)) refl (omega arith) (simp length-replicate (omega arith)))

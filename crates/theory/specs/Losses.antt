@@ -1,13 +1,14 @@
 -- An accepted loss, and the audit after it. On a sound table: the verdict after it is 0 exactly where no withdrawal would have been granted.
 use mathlib.Core.Path.{_≡_, refl, sym, ap, _∙_}
-use mathlib.Core.Bool.{Bool, true, false, not, and-false}
+use mathlib.Core.Bool.{Bool, true, false, not}
 use mathlib.Core.List.{List}
 use Prim.Native.Nat.{ℕ, _+_}
+use native.Mathlib.Omega.{arith}
 use lib.Dec.{eqb, ltb}
-use borrow.Author.Tests.{eqb-true, eqb-false, ltb-true, lt-leb}
+use borrow.Author.Tests.{eqb-true, eqb-false, ltb-true}
 use Rattle.model.specs.Lists.{if_then_else_, every}
 use Rattle.model.specs.Identifier.{space}
-use Rattle.model.specs.Table.{Member, Table, tableOf, membersIn, wellFormed}
+use Rattle.model.specs.Table.{Member, tableOf, membersIn, wellFormed}
 use Rattle.model.specs.Ring.{live, hasLive, principals, sound, verdict}
 use Rattle.model.specs.Steps.{without}
 use Rattle.model.specs.Refusals.{memberRefusal, leaveRefusal, cutsOff, tooFewPrincipals}
@@ -18,18 +19,10 @@ use Rattle.laws.specs.Accepted.{answer-number, member-accepted}
 use Rattle.laws.specs.Words.{writtenFreed-table}
 use Rattle.laws.specs.Tables.{wellFormed-facts, formed-lists}
 use Rattle.laws.specs.Removed.{removed-formed}
+use Rattle.laws.specs.Verdicts.{verdict-few, verdict-cut-off}
 use Rattle.theory.specs.Runs.{fail-good}
 
--- a table that 6 or 7 speaks of is not sound
-
-cut-off-unsound : (T : Table) → every (hasLive (T .members)) (T .members) ≡ false → verdict T ≡ 0
-unfolding verdict sound
-cut-off-unsound T e = rw e
-
-few-unsound : (T : Table) → ltb (principals (T .members)) (T .r + 1) ≡ true → verdict T ≡ 0
-unfolding verdict sound
-few-unsound T e = let h = ltb-true (principals (T .members)) (T .r + 1) e in rw (lt-leb (T .r + 1) (principals (T .members)) h, and-false)
-
+-- 6 and 7 are judged on the table without the member: where either applies, that table is not sound
 declined-unsound : (ws : List ℕ) (n : ℕ) → wellFormed ws ≡ true → live (membersIn ws) n ≡ true → (leaveRefusal ws n ≡ 0 → ⊥) → verdict (without n (tableOf ws)) ≡ 0
 unfolding leaveRefusal cutsOff tooFewPrincipals
 declined-unsound ws n h l d = go (every (hasLive ms) ms) refl (ltb (principals ms) (tableOf ws .r + 1)) refl (rw (h, l) at d)
@@ -38,8 +31,8 @@ declined-unsound ws n h l d = go (every (hasLive ms) ms) refl (ltb (principals m
     ms = without n (tableOf ws) .members
 
     go : (e : Bool) → every (hasLive ms) ms ≡ e → (t : Bool) → ltb (principals ms) (tableOf ws .r + 1) ≡ t → (_≡_ {A = ℕ} (if not e then 6 else if t then 7 else 0) 0 → ⊥) → verdict (without n (tableOf ws)) ≡ 0
-    go false e t q f = cut-off-unsound (without n (tableOf ws)) e
-    go true e true q f = few-unsound (without n (tableOf ws)) q
+    go false e t q f = sym (verdict-cut-off (without n (tableOf ws)) e)
+    go true e true q f = sym (verdict-few (without n (tableOf ws)) (omega (arith, ltb-true (principals ms) (tableOf ws .r + 1) q)))
     go true e false q f = absurd (f refl)
 
 -- the table that an accepted loss leaves

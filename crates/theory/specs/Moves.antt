@@ -12,15 +12,12 @@ use Rattle.model.specs.Table.{Member, membersIn}
 use Rattle.model.specs.Ring.{live, bestSuccessor, moved, onRing, movesFrom, movesToRing}
 use Rattle.laws.specs.Lists.{count-less, length-ids, live-in}
 use Rattle.laws.specs.Order.{less?}
-use Rattle.theory.specs.Claim.{appendages, Holds}
+use Rattle.theory.specs.Claim.{ComesOn, appendages, Holds}
 use Rattle.theory.specs.Walks.{sooner}
 
 -- some number of moves from x leads onto the ring
-pub record LeadsOn (ms : List Member) (x : ℕ) : Type 0 where
-  pub moves : ℕ
-  pub place : ℕ
-  pub leads : moved ms moves x ≡ some place
-  pub on : onRing ms place ≡ true
+abbrev pub LeadsOn : List Member → ℕ → Type 0
+LeadsOn ms x = (n : ℕ) × ComesOn ms n x
 
 -- i moves from x lead onto the ring, and fewer do not
 pub record First (ms : List Member) (x i : ℕ) : Type 0 where
@@ -80,7 +77,7 @@ module _ (ms : List Member) where
     where
       go : Looked (length ms) 0 x → Told ms x (movesToRing ms x)
       go (comes i few told f) = let e : movesToRing ms x ≡ i = omega (arith, told) in rw e (fewest f few)
-      go (passes told g) = never told (λ c. let s = sooner ms x (c .moves) (live-in ms x l) (c .leads) (c .on) in true≢false (sym (s .on) ∙ g (s .moves) (s .place) (s .few) (s .leads)))
+      go (passes told g) = never told (λ c. let s = sooner ms x (c .1 .moves) (live-in ms x l) (c .1 .leads) (c .1 .on) in true≢false (sym (s .on) ∙ g (s .moves) (s .place) (omega (arith, s .few, count-less (λ y. false) (live-in ms x l) refl, length-ids ms)) (s .leads)))
 
   -- The same, said apart
 
@@ -101,12 +98,12 @@ module _ (ms : List Member) where
       none-leads e (never q n) c = n c
 
       count-told : {m : ℕ} → (LeadsOn ms x → ⊥) → Told ms x m → m ≡ length ms
-      count-told {m} n (fewest f few) = absurd (n (record { moves = m; place = f .place; leads = f .leads; on = f .on }))
+      count-told {m} n (fewest f few) = absurd (n (m, record { moves = m; few = omega arith; place = f .place; leads = f .leads; on = f .on }))
       count-told n (never q k) = q
 
   -- 0 is told exactly on the ring
   pub moves-zero : (x : ℕ) → live ms x ≡ true → (onRing ms x ≡ true → movesToRing ms x ≡ 0) × (movesToRing ms x ≡ 0 → onRing ms x ≡ true)
-  moves-zero x l = (λ o. zero-of (movesToRing ms x) (moves-fewest x l (record { moves = 0; place = x; leads = refl; on = o })) o, λ e. on-of e (moves-told x l))
+  moves-zero x l = (λ o. zero-of (movesToRing ms x) (moves-fewest x l (0, record { moves = 0; few = omega arith; place = x; leads = refl; on = o })) o, λ e. on-of e (moves-told x l))
     where
       zero-of : (i : ℕ) → First ms x i → onRing ms x ≡ true → i ≡ 0
       zero-of zero g o = refl
@@ -122,7 +119,7 @@ pub moves-first : (ws : List ℕ) → Holds ws → (x : ℕ) → live (membersIn
 moves-first ws h x l = (f, go (less? (appendages (membersIn ws)) (movesToRing (membersIn ws) x)))
   where
     f : First (membersIn ws) x (movesToRing (membersIn ws) x)
-    f = let c = h .comes-on x l in moves-fewest (membersIn ws) x l (record { moves = c .moves; place = c .place; leads = c .leads; on = c .on })
+    f = moves-fewest (membersIn ws) x l (appendages (membersIn ws), h .comes-on x l)
 
     go : (appendages (membersIn ws) < movesToRing (membersIn ws) x) ⊎ (movesToRing (membersIn ws) x ≤ appendages (membersIn ws)) → movesToRing (membersIn ws) x ≤ appendages (membersIn ws)
     go (inr k) = k

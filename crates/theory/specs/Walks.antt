@@ -5,7 +5,7 @@ use mathlib.Core.Logic.{_⊎_, inl, inr}
 use mathlib.Core.Bool.{Bool, true, false, _||_, false≢true}
 use mathlib.Core.List.{List, [], _∷_}
 use mathlib.Core.Option.{Option, some, none}
-use Prim.Native.Nat.{ℕ, zero, suc, _≤_, _<_}
+use Prim.Native.Nat.{ℕ, zero, suc, _-_, _≤_}
 use native.Mathlib.Omega.{arith}
 use lib.Dec.{eqb}
 use lib.ListN.{length}
@@ -13,8 +13,8 @@ use borrow.Author.Tests.{eqb-true, eq-eqb}
 use Rattle.model.specs.Lists.{option}
 use Rattle.model.specs.Table.{Member, ids}
 use Rattle.model.specs.Ring.{named, bestSuccessor, moved, reaches, onRing}
-use Rattle.laws.specs.Lists.{In, in-cons, in-nil, in?, NoDup, pigeonhole, count-less, true-or, length-ids}
-use Rattle.theory.specs.Claim.{ComesBack, RingAsComputed}
+use Rattle.laws.specs.Lists.{In, in-cons, in-nil, in?, NoDup, pigeonhole, true-or, length-ids}
+use Rattle.theory.specs.Claim.{ComesBack, ComesOn, RingAsComputed}
 use Rattle.theory.specs.Entries.{firstLive-in}
 
 module _ (ms : List Member) where
@@ -133,22 +133,14 @@ module _ (ms : List Member) where
       go (inl q) ih = (0, rw (e, q))
       go (inr j) ih = let v = ih j in (suc (v .0), rw e (v .1))
 
-  -- so many moves from x lead onto the ring, fewer than there are members
-  pub record Sooner (x : ℕ) : Type 0 where
-    pub moves : ℕ
-    pub few : moves < length ms
-    pub place : ℕ
-    pub leads : moved ms moves x ≡ some place
-    pub on : onRing ms place ≡ true
+  on-already : (x : ℕ) → onRing ms x ≡ true → ComesOn ms (length ms - 1) x
+  on-already x o = record { moves = 0; few = omega arith; place = x; leads = refl; on = o }
 
-  sooner-here : (x : ℕ) → In x (ids ms) → onRing ms x ≡ true → Sooner x
-  sooner-here x i o = record { moves = 0; few = omega (arith, count-less (λ y. false) i refl, length-ids ms); place = x; leads = refl; on = o }
-
-  pub sooner : (x j : ℕ) {place : ℕ} → In x (ids ms) → moved ms j x ≡ some place → onRing ms place ≡ true → Sooner x
-  sooner x zero {place} i h o = let q : x ≡ place = cc in sooner-here x i (rw q o)
+  pub sooner : (x j : ℕ) {place : ℕ} → In x (ids ms) → moved ms j x ≡ some place → onRing ms place ≡ true → ComesOn ms (length ms - 1) x
+  sooner x zero {place} i h o = let q : x ≡ place = cc in on-already x (rw q o)
   sooner x (suc j) {place} i h o = go (straight (moved-walk j x h .1))
     where
-      go : (k : List ℕ) × Walk place x k × NoDup k → Sooner x
+      go : (k : List ℕ) × Walk place x k × NoDup k → ComesOn ms (length ms - 1) x
       go (k, v, nd) = sub (in? x k)
         where
           member : (y : ℕ) → In y (x ∷ k) → In y (ids ms)
@@ -158,8 +150,8 @@ module _ (ms : List Member) where
               fit (inl q) = rw q i
               fit (inr n) = walk-in v y n
 
-          sub : In x k ⊎ (In x k → ⊥) → Sooner x
-          sub (inl m) = let b = walk-to v x m in sooner-here x i (back-onRing (record { more = b .0; back = b .1 }))
+          sub : In x k ⊎ (In x k → ⊥) → ComesOn ms (length ms - 1) x
+          sub (inl m) = let b = walk-to v x m in on-already x (back-onRing (record { more = b .0; back = b .1 }))
           sub (inr n) = record { moves = length k; few = omega (arith, pigeonhole (x ∷ k) (ids ms) (n, nd) member, length-ids ms); place = place; leads = walk-moved v; on = o }
 
 pub ring-as-computed : RingAsComputed

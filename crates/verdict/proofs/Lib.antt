@@ -1,4 +1,3 @@
 -- Laws that the proofs of this crate cite.
 pub mod Records
 pub mod Ideal
-pub mod Verdicts

@@ -1,12 +1,13 @@
 -- Words that move up and down in a list, one by one: what the loops of `open_gap` and `close_gap` reach. Assumes nothing.
 use Prim.Native.Nat.{ℕ, zero, suc, _+_, _-_, _≤_, _<_}
-use mathlib.Core.Path.{_≡_, sym, _∙_}
+use mathlib.Core.Path.{_≡_, _∙_}
 use mathlib.Core.List.{List, [], _∷_, _++_, append-assoc}
 use native.Mathlib.Nat.{zero-add, suc-add}
 use native.Mathlib.Numerals.{add-one}
 use native.Mathlib.Omega.{arith}
 use lib.ListN.{length, getD, take, drop, set, replicate, length-take, length-drop, length-replicate, getD-replicate, take-append-drop, drop-of-length-le, List·getD-append}
-use lib.Seq.{paste, paste-suc, take-suc, take-all, take-at, take-nil, drop-cons, drop-at, drop-drop, getD-take, getD-drop, getD-append-add, append-snoc, set-at}
+use lib.Seq.{paste, paste-suc, take-suc, take-all, take-at, drop-cons, drop-at, drop-drop, getD-take, getD-drop, getD-append-add, append-snoc, set-at}
+use Rattle.laws.specs.Parts.{drop-take}
 
 -- `open_gap`: of the used words those from i on have moved up by w
 abbrev pub raised : List ℕ → ℕ → ℕ → ℕ → List ℕ
@@ -53,12 +54,6 @@ cleared-more t n w i h l =
     let z : List ℕ = replicate w 0 in
     rw add-one (rw (getD-replicate {A = ℕ} w i 0 0 h) at (paste-suc t n z i 0 (omega arith) (simp length-replicate (omega arith))))
 
-pub drop-take : (t : List ℕ) (n w : ℕ) → w ≤ n → drop w (take n t) ≡ take (n - w) (drop w t)
-drop-take t n zero h = let z : n - 0 ≡ n = omega arith in rw z
-drop-take t zero (suc w) h = absurd (omega arith)
-drop-take [] (suc n) (suc w) h = sym (take-nil (suc n - suc w))
-drop-take (x ∷ t) (suc n) (suc w) h = let z : suc n - suc w ≡ n - w = omega arith in rw z (drop-take t n w (omega arith))
-
 -- both loops
 pub gap-closed : (t : List ℕ) (n w : ℕ) → n + w ≤ length t → cleared (lowered t w n) n w w ≡ drop w (take (n + w) t) ++ (replicate w 0 ++ drop (n + w) t)
 gap-closed t n w l =
@@ -67,4 +62,4 @@ gap-closed t n w l =
     let zs : List ℕ = replicate w 0 in
     let e : drop (n + w) (lowered t w n) ≡ drop (n + w) t = rw (← drop-drop w n (lowered t w n), drop-at (take n (drop w t)) (drop n t) n a, drop-drop) in
     let f : take w zs ≡ zs = take-all w zs (simp length-replicate (omega arith)) in
-    rw (take-at (take n (drop w t)) (drop n t) n a, e, f, drop-take t (n + w) w (omega arith), z) (append-assoc (take n (drop w t)) zs (drop (n + w) t))
+    rw (take-at (take n (drop w t)) (drop n t) n a, e, f, drop-take w (n + w) t, z) (append-assoc (take n (drop w t)) zs (drop (n + w) t))

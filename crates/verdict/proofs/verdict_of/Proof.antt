@@ -10,7 +10,7 @@ use Rattle.model.specs.Lists.{every}
 use Rattle.model.specs.Table.{membersOf, membersIn, tableOf, ids}
 use Rattle.model.specs.Ring.{hasLive, candidateInside, principals, idealMember, ideal}
 use Rattle.laws.specs.Parts.{part-from}
-use Rattle.verdict.proofs.Verdicts.{verdict-ideal, verdict-sound, verdict-outside, verdict-few, verdict-cut-off}
+use Rattle.laws.specs.Verdicts.{verdict-ideal, verdict-sound, verdict-outside, verdict-few, verdict-cut-off}
 use Rattle.verdict.proofs.verdict_of.Statement.{statement}
 use Rattle.verdict.proofs.verdict_of.Tie as tie
 
