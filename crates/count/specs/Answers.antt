@@ -1,0 +1,24 @@
+-- Document 01's number and values for each case. No two answers have the same: so a contract that states them fixes the case.
+use Prim.Native.Nat.{ℕ}
+use mathlib.Core.Path.{_≡_, refl, sym, ap, _∙_}
+use mathlib.Core.List.{List, [], _∷_}
+use Rattle.model.specs.Answer.{Answer, accepted, declined}
+use Rattle.count.specs.declared.Count.{Count}
+use Rattle.count.specs.declared.Count.the-variants.{Members, Declined}
+
+abbrev pub answerOf : Count → Answer
+answerOf (Members n) = accepted (n ∷ [])
+answerOf (Declined k) = declined k
+
+-- the case that a number and values are
+abbrev caseOf : ℕ → List ℕ → Count
+caseOf k [] = Declined k
+caseOf k (n ∷ vs) = Members n
+
+read-back : (a : Count) → caseOf (answerOf a .number) (answerOf a .values) ≡ a
+read-back (Members n) = refl
+read-back (Declined k) = refl
+
+-- the definition of numbers is one to one
+pub one-to-one : (a b : Count) → answerOf a ≡ answerOf b → a ≡ b
+one-to-one a b h = sym (read-back a) ∙ (ap (λ (x : Answer). caseOf (x .number) (x .values)) h ∙ read-back b)
