@@ -5,13 +5,13 @@ use mathlib.Core.List.{List, [], _∷_, map}
 use mathlib.Core.Bool.{Bool, true, false, _&&_, and-false}
 use borrow.Author.Tests.{eq-eqb, ne-eqb}
 use lib.Dec.{eqb}
-use lib.ListN.{length, getD, take, drop}
+use lib.ListN.{length, getD, drop}
 use Rattle.model.specs.Lists.{same}
 use Rattle.model.specs.Table.{Member, headerSize, recordSize, memberOf, membersOf, tableOf, ids}
 use Rattle.model.specs.Ring.{successor}
 use Rattle.model.specs.Alike.{alike}
 use Rattle.laws.specs.Lists.{and-pairs}
-use Rattle.laws.specs.Parts.{part-from, first-member, successor-word}
+use Rattle.laws.specs.Parts.{first-member, successor-word}
 
 -- equal identifiers and first entries
 abbrev pub sameMembers : List Member → List Member → Bool
@@ -51,6 +51,6 @@ lengths-differ (x ∷ l) [] d = refl
 lengths-differ (x ∷ l) (y ∷ k) d = rw (lengths-differ l k (λ e. d (ap suc e)), and-false)
 
 -- two tables of equal r and member count are alike as their records are
-pub records-decide : (us vs : List ℕ) (b : Bool) → getD us 0 0 ≡ getD vs 0 0 → getD us 1 0 ≡ getD vs 1 0 → b ≡ sameMembers (membersOf (getD us 0 0) (getD us 1 0) (take (length us - headerSize) (drop headerSize us))) (membersOf (getD us 0 0) (getD us 1 0) (take (length vs - headerSize) (drop headerSize vs))) → b ≡ alike (tableOf us) (tableOf vs)
+pub records-decide : (us vs : List ℕ) (b : Bool) → getD us 0 0 ≡ getD vs 0 0 → getD us 1 0 ≡ getD vs 1 0 → b ≡ sameMembers (membersOf (getD us 0 0) (getD us 1 0) (drop headerSize us)) (membersOf (getD us 0 0) (getD us 1 0) (drop headerSize vs)) → b ≡ alike (tableOf us) (tableOf vs)
 unfolding alike
-records-decide us vs b er en t = rw (← er, ← en, eq-eqb _ _ refl) (rw (part-from headerSize us, part-from headerSize vs) at t)
+records-decide us vs b er en t = rw (← er, ← en, eq-eqb _ _ refl) t

@@ -11,18 +11,18 @@ ghost use Rattle.model.specs.Ring.{successor};
 ghost use Rattle.model.specs.Alike.{alike as alikeOf};
 ghost use Rattle.model.specs.Calls.{alikeAnswer};
 ghost use Rattle.table.specs.Formed.{Formed};
-ghost use Rattle.reply.specs.Answers.{answerOf};
-use reply::Reply;
+ghost use Rattle.yes_no.specs.Answers.{answerOf};
+use yes_no::YesNo;
 
 // Have the records that the two parts hold equal identifiers and first entries?
 fn record_alike(u: &[u32], v: &[u32]) -> bool
-    requires { ⌜ (5 ≤ length (now u)) × (5 ≤ length (now v)) ⌝ }
+    requires { ⌜ (recordSize 1 ≤ length (now u)) × (recordSize 1 ≤ length (now v)) ⌝ }
     ensures { λ b. ⌜ ((r : ℕ) → 1 ≤ r → b ≡ (eqb (memberOf r (now (u .entry)) .id) (memberOf r (now (v .entry)) .id) && eqb (successor (memberOf r (now (u .entry)))) (successor (memberOf r (now (v .entry)))))) ⌝ }
 {
     if u[0] != v[0] {
         return false;
     }
-    u[4] == v[4]
+    u[words::LIST] == v[words::LIST]
 }
 
 // Have the n records at the front of each equal identifiers and first entries?
@@ -30,7 +30,7 @@ fn records_alike(us: &[u32], vs: &[u32], r: usize, n: usize) -> bool
     requires { ⌜ (1 ≤ r) × (r ≤ 8) × (n * recordSize r ≤ length (now us)) × (n * recordSize r ≤ length (now vs)) ⌝ }
     ensures { λ b. ⌜ b ≡ (same (ids (membersOf r n (now (us .entry)))) (ids (membersOf r n (now (vs .entry)))) && same (map successor (membersOf r n (now (us .entry)))) (map successor (membersOf r n (now (vs .entry))))) ⌝ }
 {
-    let w = r + 4;
+    let w = words::width(r);
     let mut p = us;
     let mut q = vs;
     let mut left = n;
@@ -62,20 +62,25 @@ fn tables_alike(us: &[u32], vs: &[u32]) -> bool
     if n != m {
         return false;
     }
-    records_alike(&us[3..], &vs[3..], r as usize, n as usize)
+    records_alike(
+        words::records_of(us),
+        words::records_of(vs),
+        r as usize,
+        n as usize,
+    )
 }
 
 // Are the tables alike: yes or no, or 1 if either is not well-formed.
-pub fn alike(us: &[u32], vs: &[u32]) -> Reply
+pub fn alike(us: &[u32], vs: &[u32]) -> YesNo
     ensures { λ a. ⌜ answerOf a ≡ alikeAnswer (now (us .entry)) (now (vs .entry)) ⌝ }
 {
     if table::well_formed(us) {
         if table::well_formed(vs) {
             if tables_alike(us, vs) {
-                return Reply::Yes;
+                return YesNo::Yes;
             }
-            return Reply::No;
+            return YesNo::No;
         }
     }
-    Reply::Declined(1)
+    YesNo::Declined(1)
 }

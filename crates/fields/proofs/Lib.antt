@@ -1,4 +1,2 @@
--- Laws that the proofs of this crate and of `image` cite.
-pub mod Numbers
-pub mod Placed
+-- Laws that the proofs of this crate cite.
 pub mod Fields

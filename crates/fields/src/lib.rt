@@ -1,57 +1,89 @@
-// Numbers as bytes, high byte first, and one member's field of an image. For `image`; a caller of the library uses none of this.
+// The fields of an image: their sizes and heads, the first field, and one member's. For `judge`, `image` and `due`; a caller of the library uses none of this.
 ghost use mathlib.Core.Path.{_≡_};
 ghost use mathlib.Core.List.{_∷_};
-ghost use Prim.Native.Nat.{_+_, _*_, _≤_, _<_};
+ghost use Prim.Native.Nat.{ℕ, _+_, _≤_, _<_};
 ghost use lib.ListN.{length, drop};
 ghost use Rattle.model.specs.Table.{recordSize, memberOf, recordOf};
-ghost use Rattle.model.specs.Image.{bytesOf, numberAt, words4, memberField, numbersAt, fieldMember};
+ghost use Rattle.model.specs.Image.{bytesOf, memberField, fieldHead, memberLength, fieldMember, imageR, imageCount};
 ghost use Rattle.laws.specs.Bytes.{fieldSize};
-ghost use Rattle.fields.specs.Placed.{placed, headIs};
+ghost use Rattle.octets.specs.Placed.{placed};
+ghost use Rattle.fields.specs.Fields.{firstSize, imageSize, headIs, headerBytes, imageSteps, idIn, pendingIn, candidateIn};
 
-// The number in the two bytes at a position.
-pub fn number2(bs: &[u8], at: usize) -> usize
-    requires { ⌜ at + 2 ≤ length (now bs) ⌝ }
-    ensures { λ x. ⌜ (x ≡ numberAt (now (bs .entry)) at 2) × (x < 65536) ⌝ }
+// The tag of the first field.
+pub const FIRST: u8 = 1;
+
+// The tag of a member's field.
+pub const MEMBER: u8 = 2;
+
+// The tag of the last field.
+pub const LAST: u8 = 3;
+
+// The bytes before a field's contents: its tag and, in two bytes, their length.
+pub const HEAD: usize = 3;
+
+// The bytes of the first field's contents: r, member count, step count.
+pub const HEADER: usize = 7;
+
+// Where the first field has r.
+const R: usize = HEAD;
+
+// Where it has the member count.
+const COUNT: usize = R + 1;
+
+// Where it has the step count.
+const STEPS: usize = COUNT + 2;
+
+// Where the members' fields start.
+pub const MEMBERS: usize = HEAD + HEADER;
+
+// Where a member's field has its identifier, and then its predecessor.
+const ID: usize = HEAD;
+
+// Where it has what is pending.
+const PENDING: usize = ID + 8;
+
+// Where it has its candidate, and then its list.
+const CANDIDATE: usize = PENDING + 1;
+
+// The bytes of the field of a record of w words: four for each. Pending takes one of its four; the head takes the others.
+pub fn field_size(w: usize) -> usize
+    requires { ⌜ w ≤ recordSize 255 ⌝ }
+    ensures { λ n. ⌜ ((r : ℕ) → w ≡ recordSize r → n ≡ fieldSize r) ⌝ }
 {
-    bs[at] as usize * 256 + bs[at + 1] as usize
+    4 * w
 }
 
-// The number in the four bytes at a position.
-pub fn number4(bs: &[u8], at: usize) -> u32
-    requires { ⌜ at + 4 ≤ length (now bs) ⌝ }
-    ensures { λ x. ⌜ x ≡ numberAt (now (bs .entry)) at 4 ⌝ }
+// The bytes of the contents of a member's field.
+pub fn member_length(r: usize) -> usize
+    requires { ⌜ r ≤ 255 ⌝ }
+    ensures { λ n. ⌜ n ≡ memberLength r ⌝ }
 {
-    let high = number2(bs, at);
-    let low = number2(bs, at + 2);
-    (high * 65536 + low) as u32
+    field_size(words::width(r)) - HEAD
+}
+
+// The bytes of an image with n members and lists of length r.
+pub fn image_size(r: usize, n: usize) -> usize
+    requires { ⌜ (r ≤ 8) × (n ≤ 256) ⌝ }
+    ensures { λ s. ⌜ (s ≡ imageSize r n) × (s ≤ imageSize 8 256) ⌝ }
+{
+    MEMBERS + HEAD + n * field_size(words::width(r))
 }
 
 // Does a field of this tag and length begin at the front?
 pub fn head_is(bs: &[u8], tag: u8, len: usize) -> bool
-    requires { ⌜ 3 ≤ length (now bs) ⌝ }
+    requires { ⌜ fieldHead ≤ length (now bs) ⌝ }
     ensures { λ b. ⌜ b ≡ headIs (now (bs .entry)) tag len ⌝ }
 {
     if bs[0] == tag {
-        let n = number2(bs, 1);
+        let n = octets::number2(bs, 1);
         return n == len;
     }
     false
 }
 
-// A number in the four bytes from a position on.
-pub fn put4(out: &mut [u8], at: usize, x: u32)
-    requires { ⌜ at + 4 ≤ length (now out) ⌝ }
-    ensures { λ _. ⌜ now (out .exit) ≡ placed at (bytesOf 4 x) (now (out .entry)) ⌝ }
-{
-    out[at] = (x / 256 / 256 / 256 % 256) as u8;
-    out[at + 1] = (x / 256 / 256 % 256) as u8;
-    out[at + 2] = (x / 256 % 256) as u8;
-    out[at + 3] = (x % 256) as u8;
-}
-
 // The head of a field: its tag and the length of its contents.
 pub fn put_head(out: &mut [u8], at: usize, tag: u8, len: usize)
-    requires { ⌜ at + 3 ≤ length (now out) ⌝ }
+    requires { ⌜ at + fieldHead ≤ length (now out) ⌝ }
     ensures { λ _. ⌜ now (out .exit) ≡ placed at (tag ∷ bytesOf 2 len) (now (out .entry)) ⌝ }
 {
     out[at] = tag;
@@ -59,16 +91,64 @@ pub fn put_head(out: &mut [u8], at: usize, tag: u8, len: usize)
     out[at + 2] = (len % 256) as u8;
 }
 
-// Words, each as a number of four bytes.
-pub fn put_words(out: &mut [u8], at: usize, ws: &[u32])
-    requires { ⌜ at + 4 * length (now ws) ≤ length (now out) ⌝ }
-    ensures { λ _. ⌜ now (out .exit) ≡ placed at (words4 (now (ws .entry))) (now (out .entry)) ⌝ }
+// The first field: r, member count, step count.
+pub fn put_header(out: &mut [u8], r: usize, n: usize, steps: u32)
+    requires { ⌜ firstSize ≤ length (now out) ⌝ }
+    ensures { λ _. ⌜ now (out .exit) ≡ placed 0 (headerBytes r n steps) (now (out .entry)) ⌝ }
 {
-    let mut i = 0;
-    while i < ws.len() {
-        put4(out, at + 4 * i, ws[i]);
-        i += 1;
-    }
+    put_head(out, 0, FIRST, HEADER);
+    out[R] = (r % 256) as u8;
+    out[COUNT] = (n / 256 % 256) as u8;
+    out[COUNT + 1] = (n % 256) as u8;
+    octets::put4(out, STEPS, steps);
+}
+
+// The r that the first field says.
+pub fn image_r(image: &[u8]) -> usize
+    requires { ⌜ firstSize ≤ length (now image) ⌝ }
+    ensures { λ r. ⌜ (r ≡ imageR (now (image .entry))) × (r < 256) ⌝ }
+{
+    image[R] as usize
+}
+
+// The member count that it says.
+pub fn image_count(image: &[u8]) -> usize
+    requires { ⌜ firstSize ≤ length (now image) ⌝ }
+    ensures { λ n. ⌜ (n ≡ imageCount (now (image .entry))) × (n < 65536) ⌝ }
+{
+    octets::number2(image, COUNT)
+}
+
+// The step count that it says.
+pub fn image_steps(image: &[u8]) -> u32
+    requires { ⌜ firstSize ≤ length (now image) ⌝ }
+    ensures { λ s. ⌜ s ≡ imageSteps (now (image .entry)) ⌝ }
+{
+    octets::number4(image, STEPS)
+}
+
+// The identifier that the member's field at the front says.
+pub fn id_of(f: &[u8]) -> u32
+    requires { ⌜ fieldSize 0 ≤ length (now f) ⌝ }
+    ensures { λ x. ⌜ x ≡ idIn (now (f .entry)) ⌝ }
+{
+    octets::number4(f, ID)
+}
+
+// What it says of pending.
+pub fn pending_of(f: &[u8]) -> u8
+    requires { ⌜ fieldSize 0 ≤ length (now f) ⌝ }
+    ensures { λ p. ⌜ p ≡ pendingIn (now (f .entry)) ⌝ }
+{
+    f[PENDING]
+}
+
+// The candidate that it says.
+pub fn candidate_of(f: &[u8]) -> u32
+    requires { ⌜ fieldSize 0 ≤ length (now f) ⌝ }
+    ensures { λ x. ⌜ x ≡ candidateIn (now (f .entry)) ⌝ }
+{
+    octets::number4(f, CANDIDATE)
 }
 
 // The field of the member whose record the part holds.
@@ -76,43 +156,18 @@ pub fn write_field(out: &mut [u8], at: usize, ws: &[u32], r: usize)
     requires { ⌜ (r ≤ 8) × (length (now ws) ≡ recordSize r) × (at + fieldSize r ≤ length (now out)) ⌝ }
     ensures { λ _. ⌜ now (out .exit) ≡ placed at (memberField (memberOf r (now (ws .entry)))) (now (out .entry)) ⌝ }
 {
-    put_head(out, at, 2, 13 + 4 * r);
-    put_words(out, at + 3, &ws[0..2]);
-    out[at + 11] = (ws[2] % 256) as u8;
-    put_words(out, at + 12, &ws[3..r + 4]);
-}
-
-// n words, each from four bytes.
-fn get_run(t: &mut [u32], at: usize, bs: &[u8], n: usize)
-    requires { ⌜ (4 * n ≤ length (now bs)) × (at + n ≤ length (now t)) ⌝ }
-    ensures { λ _. ⌜ now (t .exit) ≡ placed at (numbersAt n (now (bs .entry))) (now (t .entry)) ⌝ }
-{
-    let mut i = 0;
-    while i < n {
-        t[at + i] = number4(bs, 4 * i);
-        i += 1;
-    }
-}
-
-// The same, the first eight apart: a loop of a fixed count is faster.
-pub fn get_words(t: &mut [u32], at: usize, bs: &[u8], n: usize)
-    requires { ⌜ (4 * n ≤ length (now bs)) × (at + n ≤ length (now t)) ⌝ }
-    ensures { λ _. ⌜ now (t .exit) ≡ placed at (numbersAt n (now (bs .entry))) (now (t .entry)) ⌝ }
-{
-    if 8 <= n {
-        get_run(t, at, bs, 8);
-        get_run(t, at + 8, &bs[32..], n - 8);
-        return;
-    }
-    get_run(t, at, bs, n);
+    put_head(out, at, MEMBER, member_length(r));
+    octets::put_words(out, at + ID, &ws[0..2]);
+    out[at + PENDING] = (ws[2] % 256) as u8;
+    octets::put_words(out, at + CANDIDATE, &ws[3..]);
 }
 
 // The record of the member whose field the part holds.
 pub fn read_field(t: &mut [u32], at: usize, bs: &[u8], r: usize)
     requires { ⌜ (r ≤ 8) × (length (now bs) ≡ fieldSize r) × (at + recordSize r ≤ length (now t)) ⌝ }
-    ensures { λ _. ⌜ now (t .exit) ≡ placed at (recordOf (fieldMember r (drop 3 (now (bs .entry))))) (now (t .entry)) ⌝ }
+    ensures { λ _. ⌜ now (t .exit) ≡ placed at (recordOf (fieldMember r (drop fieldHead (now (bs .entry))))) (now (t .entry)) ⌝ }
 {
-    get_words(t, at, &bs[3..], 2);
-    t[at + 2] = bs[11] as u32;
-    get_words(t, at + 3, &bs[12..], r + 1);
+    octets::get_words(t, at, &bs[ID..], 2);
+    t[at + 2] = bs[PENDING] as u32;
+    octets::get_words(t, at + 3, &bs[CANDIDATE..], words::width(r) - 3);
 }

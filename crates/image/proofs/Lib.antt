@@ -1,4 +1,3 @@
 -- Laws that the proofs of this crate cite.
-pub mod Due
 pub mod Turns
 pub mod Whole

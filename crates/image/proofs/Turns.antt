@@ -1,38 +1,35 @@
 -- The loops over fields: what is left, placed after what was placed, is the whole. Assumes nothing.
-use Prim.Native.Nat.{ℕ, zero, suc, _+_, _*_, _-_, _/_, _%_, _≤_, _<_}
-use mathlib.Core.Path.{_≡_, refl}
-use mathlib.Core.List.{List, [], _∷_, _++_}
+use Prim.Native.Nat.{ℕ, zero, suc, _+_, _*_, _-_, _≤_, _<_}
+use mathlib.Core.Path.{_≡_, refl, ap, _∙_}
+use mathlib.Core.List.{List, _∷_}
 use native.Mathlib.Omega.{arith}
 use lib.ListN.{length, take, drop, length-take, length-drop}
-use lib.Seq.{sets, sets-eq}
 use Rattle.model.specs.Table.{Member, recordSize, memberOf, recordOf, membersOf, recordsOf}
-use Rattle.model.specs.Image.{bytesOf, field, memberField, memberFields, fieldMember, fieldMembers}
-use Rattle.laws.specs.Bytes.{fieldSize, field-length, numbers-length}
-use Rattle.fields.specs.Placed.{placed}
-use Rattle.fields.proofs.Placed.{placed-then}
+use Rattle.model.specs.Image.{fieldHead, memberField, memberFields, fieldMember, fieldMembers}
+use Rattle.laws.specs.Bytes.{fieldSize, field-length, field-part, in-lists}
+use Rattle.laws.specs.Lists.{here}
+use Rattle.laws.specs.Parts.{first-member, one-fits, member-part}
+use Rattle.laws.specs.Words.{record-length}
+use Rattle.octets.specs.Placed.{placed}
+use Rattle.octets.proofs.Placed.{placed-then}
 
--- a field has four bytes for each word of a record
-pub four-each : (r : ℕ) → 4 * (r + 4) ≡ fieldSize r
-four-each r = omega arith
+-- the first of n fields, and the others
+first-field : (r n : ℕ) (f : List ℕ) → 0 < n → fieldMembers r n f ≡ fieldMember r (drop fieldHead f) ∷ fieldMembers r (n - 1) (drop (fieldSize r) f)
+first-field r zero f h = absurd (omega arith)
+first-field r (suc n) f h = let e : suc n - 1 ≡ n = omega arith in rw e
 
--- `write_fields`: one more field
-pub field-turn : (at r n : ℕ) (ws out out' : List ℕ) → 0 < n → recordSize r ≤ length ws → at ≤ length out → out' ≡ placed at (memberField (memberOf r ws)) out → placed (at + fieldSize r) (memberFields (membersOf r (n - 1) (drop (recordSize r) ws))) out' ≡ placed at (memberFields (membersOf r n ws)) out
-field-turn at r zero ws out out' h fits l e = absurd (omega arith)
-field-turn at r (suc n) ws out out' h fits l e =
-    let q : suc n - 1 ≡ n = omega arith in
-    let m : length (take r (drop 4 ws)) ≡ r = simp (length-take, length-drop) (omega arith) in
-    rw q (placed-then at (fieldSize r) (memberField (memberOf r ws)) (memberFields (membersOf r n (drop (recordSize r) ws))) out out' _ l (field-length r (memberOf r ws) m) e refl)
+-- in a turn, w words of a record and b bytes of a field
+module _ (at r n w b : ℕ) (words : w ≡ recordSize r) (bytes : b ≡ fieldSize r) (some : 0 < n) where
+  -- `write_fields`: one more field
+  pub field-turn : (ws out out' : List ℕ) → n * recordSize r ≤ length ws → at ≤ length out → out' ≡ placed at (memberField (memberOf r (take w ws))) out → placed (at + b) (memberFields (membersOf r (n - 1) (drop w ws))) out' ≡ placed at (memberFields (membersOf r n ws)) out
+  field-turn ws out out' fits l e =
+      let m : length (memberOf r ws .successors) ≡ r = simp (length-take, length-drop) (omega (arith, one-fits r n ws some fits)) in
+      let one = e ∙ ap (λ (k : Member). placed at (memberField k) out) (member-part r w ws words) in
+      rw (words, bytes, first-member r n ws some) (placed-then at (fieldSize r) (memberField (memberOf r ws)) (memberFields (membersOf r (n - 1) (drop (recordSize r) ws))) out out' _ l (field-length r (memberOf r ws) m) one refl)
 
--- `read_fields`: one more record
-pub record-turn : (at r n : ℕ) (f t t' : List ℕ) → 0 < n → at ≤ length t → t' ≡ placed at (recordOf (fieldMember r (drop 3 f))) t → placed (at + recordSize r) (recordsOf (fieldMembers r (n - 1) (drop (fieldSize r) f))) t' ≡ placed at (recordsOf (fieldMembers r n f)) t
-record-turn at r zero f t t' h l e = absurd (omega arith)
-record-turn at r (suc n) f t t' h l e =
-    let q : suc n - 1 ≡ n = omega arith in
-    let m : Member = fieldMember r (drop 3 f) in
-    rw q (placed-then at (recordSize r) (recordOf m) (recordsOf (fieldMembers r n (drop (fieldSize r) f))) t t' _ l (omega (arith, numbers-length r (drop 13 (drop 3 f)))) e refl)
-
--- `write_header`: six bytes stored, and the four of the step count
-pub header-written : (r n steps : ℕ) (out last : List ℕ) → 10 ≤ length out → last ≡ placed 6 (bytesOf 4 steps) (sets out 0 (1 ∷ 0 ∷ 7 ∷ r % 256 ∷ n / 256 % 256 ∷ n % 256 ∷ [])) → last ≡ placed 0 (field 1 (bytesOf 1 r ++ (bytesOf 2 n ++ bytesOf 4 steps))) out
-header-written r n steps out last h e =
-    let six : List ℕ = 1 ∷ 0 ∷ 7 ∷ r % 256 ∷ n / 256 % 256 ∷ n % 256 ∷ [] in
-    placed-then 0 6 six (bytesOf 4 steps) out (sets out 0 six) last (omega arith) refl (sets-eq six out 0 (omega arith)) e
+  -- `read_fields`: one more record
+  pub record-turn : (f t t' : List ℕ) → at ≤ length t → t' ≡ placed at (recordOf (fieldMember r (drop fieldHead (take b f)))) t → placed (at + w) (recordsOf (fieldMembers r (n - 1) (drop b f))) t' ≡ placed at (recordsOf (fieldMembers r n f)) t
+  record-turn f t t' l e =
+      let m : length (fieldMember r (drop fieldHead f) .successors) ≡ r = in-lists r 1 f (fieldMember r (drop fieldHead f)) (here refl) in
+      let one = e ∙ ap (λ (k : ℕ). placed at (recordOf (fieldMember r (drop fieldHead (take k f)))) t) bytes ∙ ap (λ (k : Member). placed at (recordOf k) t) (field-part r f) in
+      rw (words, bytes, first-field r n f some) (placed-then at (recordSize r) (recordOf (fieldMember r (drop fieldHead f))) (recordsOf (fieldMembers r (n - 1) (drop (fieldSize r) f))) t t' _ l (record-length r (fieldMember r (drop fieldHead f)) m) one refl)

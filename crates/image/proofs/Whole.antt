@@ -1,5 +1,5 @@
 -- A whole image written and read, and the calls' answers. Assumes nothing.
-use Prim.Native.Nat.{ℕ, _+_, _*_, _-_, _≤_, _<_}
+use Prim.Native.Nat.{ℕ, _+_, _*_, _≤_, _<_}
 use mathlib.Core.Path.{_≡_, refl, sym, ap, _∙_}
 use mathlib.Core.Bool.{true, false}
 use mathlib.Core.List.{List, [], _∷_, _++_, append-assoc}
@@ -10,17 +10,18 @@ use lib.Seq.{sets, sets-eq}
 use borrow.Author.Tests.{lt-ltb, le-ltb}
 use Rattle.model.specs.Lists.{overlay}
 use Rattle.model.specs.Identifier.{space}
-use Rattle.model.specs.Table.{recordSize, size, recordsOf, tableOf, membersIn, wordsOf, formed, wellFormed}
+use Rattle.model.specs.Table.{headerSize, recordSize, size, recordsOf, tableOf, membersIn, wordsOf, formed, wellFormed}
 use Rattle.model.specs.Answer.{accepted, declined}
-use Rattle.model.specs.Image.{bytesOf, numberAt, field, memberFields, imageOf, fieldMembers, imageR, imageCount, tableIn, isImage}
+use Rattle.model.specs.Image.{bytesOf, field, memberFields, imageOf, fieldMembers, imageR, imageCount, tableIn, isImage}
 use Rattle.model.specs.Refusals.{writeRefusal, readRefusal}
 use Rattle.model.specs.Calls.{writeAnswer, writeBytes, readAnswer, readWords}
 use Rattle.laws.specs.Lists.{and-true}
 use Rattle.laws.specs.Words.{Lengths, members-length}
 use Rattle.laws.specs.Tables.{formed-facts, formed-lists, wellFormed-facts}
 use Rattle.laws.specs.Bytes.{same-eq, fieldSize, fields-length, image-length, in-length, in-lists}
-use Rattle.fields.specs.Placed.{placed}
-use Rattle.fields.proofs.Placed.{placed-then}
+use Rattle.octets.specs.Placed.{placed}
+use Rattle.fields.specs.Fields.{firstSize, imageSize, headerBytes, imageSteps}
+use Rattle.octets.proofs.Placed.{placed-then}
 
 -- what is placed at the front is laid over
 front : (v l : List ℕ) → placed 0 v l ≡ overlay v l
@@ -33,22 +34,22 @@ module _ (ws : List ℕ) (w : wellFormed ws ≡ true) where
   lists = formed-lists space (tableOf ws) (wellFormed-facts ws w .table)
 
   counted : length (membersIn ws) ≡ getD ws 1 0
-  counted = members-length (getD ws 0 0) (getD ws 1 0) (drop 3 ws)
+  counted = members-length (getD ws 0 0) (getD ws 1 0) (drop headerSize ws)
 
   -- the bytes of the table's image
-  pub image-bytes : length (imageOf (tableOf ws)) ≡ 13 + getD ws 1 0 * fieldSize (getD ws 0 0)
-  image-bytes = image-length (tableOf ws) lists ∙ ap (λ (n : ℕ). 13 + n * fieldSize (getD ws 0 0)) counted
+  pub image-bytes : length (imageOf (tableOf ws)) ≡ imageSize (getD ws 0 0) (getD ws 1 0)
+  image-bytes = image-length (tableOf ws) lists ∙ ap (imageSize (getD ws 0 0)) counted
 
   -- `write_image`: the first field, the members' fields and the last one
-  pub image-written : (end : ℕ) (out o1 o2 o3 : List ℕ) → end ≡ 10 + getD ws 1 0 * fieldSize (getD ws 0 0) → 13 + getD ws 1 0 * fieldSize (getD ws 0 0) ≤ length out → o1 ≡ placed 0 (field 1 (bytesOf 1 (getD ws 0 0) ++ (bytesOf 2 (getD ws 1 0) ++ bytesOf 4 (getD ws 2 0)))) out → o2 ≡ placed 10 (memberFields (membersIn ws)) o1 → o3 ≡ placed end (3 ∷ bytesOf 2 0) o2 → o3 ≡ placed 0 (imageOf (tableOf ws)) out
+  pub image-written : (end : ℕ) (out o1 o2 o3 : List ℕ) → end ≡ firstSize + getD ws 1 0 * fieldSize (getD ws 0 0) → imageSize (getD ws 0 0) (getD ws 1 0) ≤ length out → o1 ≡ placed 0 (headerBytes (getD ws 0 0) (getD ws 1 0) (getD ws 2 0)) out → o2 ≡ placed firstSize (memberFields (membersIn ws)) o1 → o3 ≡ placed end (3 ∷ bytesOf 2 0) o2 → o3 ≡ placed 0 (imageOf (tableOf ws)) out
   image-written end out o1 o2 o3 q fits e1 e2 e3 =
-      let head : List ℕ = field 1 (bytesOf 1 (getD ws 0 0) ++ (bytesOf 2 (getD ws 1 0) ++ bytesOf 4 (getD ws 2 0))) in
+      let head : List ℕ = headerBytes (getD ws 0 0) (getD ws 1 0) (getD ws 2 0) in
       let fields : List ℕ = memberFields (membersIn ws) in
-      let f2 : o2 ≡ placed 0 (head ++ fields) out = placed-then 0 10 head fields out o1 o2 (omega arith) refl e1 e2 in
+      let f2 : o2 ≡ placed 0 (head ++ fields) out = placed-then 0 firstSize head fields out o1 o2 (omega arith) refl e1 e2 in
       let n : length (head ++ fields) ≡ end = rw (length-append, fields-length (getD ws 0 0) (membersIn ws) lists, counted) (sym q) in
       let z : 0 + end ≡ end = omega arith in
       let f3 : o3 ≡ placed 0 (head ++ fields ++ field 3 []) out = placed-then 0 end (head ++ fields) (field 3 []) out o2 o3 (omega arith) n f2 (rw z e3) in
-      f3 ∙ ap (λ (v : List ℕ). placed 0 v out) (append-assoc head fields (field 3 []) ∙ ap (λ (k : ℕ). field 1 (bytesOf 1 (getD ws 0 0) ++ (bytesOf 2 k ++ bytesOf 4 (getD ws 2 0))) ++ (fields ++ field 3 [])) (sym counted))
+      f3 ∙ ap (λ (v : List ℕ). placed 0 v out) (append-assoc head fields (field 3 []) ∙ ap (λ (k : ℕ). headerBytes (getD ws 0 0) k (getD ws 2 0) ++ (fields ++ field 3 [])) (sym counted))
 
 -- the answers of `write`
 module _ (ws bs : List ℕ) where
@@ -57,13 +58,13 @@ module _ (ws bs : List ℕ) where
   no-table w = (rw w, rw w)
 
   module _ (w : wellFormed ws ≡ true) where
-    pub no-room : length bs < 13 + getD ws 1 0 * fieldSize (getD ws 0 0) → (declined 10 ≡ writeAnswer ws bs) × (bs ≡ writeBytes ws bs)
+    pub no-room : length bs < imageSize (getD ws 0 0) (getD ws 1 0) → (declined 10 ≡ writeAnswer ws bs) × (bs ≡ writeBytes ws bs)
     unfolding writeAnswer writeBytes writeRefusal
     no-room h =
         let l : length bs < length (imageOf (tableOf ws)) = rw (image-bytes ws w) h in
         (rw (w, lt-ltb (length bs) (length (imageOf (tableOf ws))) l), rw (w, lt-ltb (length bs) (length (imageOf (tableOf ws))) l))
 
-    pub written : (n : ℕ) (last : List ℕ) → n ≡ 13 + getD ws 1 0 * fieldSize (getD ws 0 0) → n ≤ length bs → last ≡ placed 0 (imageOf (tableOf ws)) bs → (accepted (n ∷ []) ≡ writeAnswer ws bs) × (last ≡ writeBytes ws bs)
+    pub written : (n : ℕ) (last : List ℕ) → n ≡ imageSize (getD ws 0 0) (getD ws 1 0) → n ≤ length bs → last ≡ placed 0 (imageOf (tableOf ws)) bs → (accepted (n ∷ []) ≡ writeAnswer ws bs) × (last ≡ writeBytes ws bs)
     unfolding writeAnswer writeBytes writeRefusal
     written n last e h p =
         let q : n ≡ length (imageOf (tableOf ws)) = e ∙ sym (image-bytes ws w) in
@@ -73,28 +74,28 @@ module _ (ws bs : List ℕ) where
 -- Reading
 
 -- `read_image`: the header and the records
-pub table-read : (bs t last : List ℕ) (r n s : ℕ) → r ≡ imageR bs → n ≡ imageCount bs → s ≡ numberAt bs 6 4 → 3 ≤ length t → last ≡ placed 3 (recordsOf (fieldMembers r n (drop 10 bs))) (sets t 0 (r ∷ n ∷ s ∷ [])) → last ≡ placed 0 (wordsOf (tableIn bs)) t
+pub table-read : (bs t last : List ℕ) (r n s : ℕ) → r ≡ imageR bs → n ≡ imageCount bs → s ≡ imageSteps bs → headerSize ≤ length t → last ≡ placed headerSize (recordsOf (fieldMembers r n (drop firstSize bs))) (sets t 0 (r ∷ n ∷ s ∷ [])) → last ≡ placed 0 (wordsOf (tableIn bs)) t
 table-read bs t last r n s er en es h e =
     let header : List ℕ = r ∷ n ∷ s ∷ [] in
-    let words : r ∷ n ∷ s ∷ recordsOf (fieldMembers r n (drop 10 bs)) ≡ wordsOf (tableIn bs) = rw (er, en, es, in-length (imageR bs) (imageCount bs) (drop 10 bs)) in
-    placed-then 0 3 header (recordsOf (fieldMembers r n (drop 10 bs))) t (sets t 0 header) last (omega arith) refl (sets-eq header t 0 (omega arith)) e ∙ ap (λ (v : List ℕ). placed 0 v t) words
+    let words : r ∷ n ∷ s ∷ recordsOf (fieldMembers r n (drop firstSize bs)) ≡ wordsOf (tableIn bs) = rw (er, en, es, in-length (imageR bs) (imageCount bs) (drop firstSize bs)) in
+    placed-then 0 headerSize header (recordsOf (fieldMembers r n (drop firstSize bs))) t (sets t 0 header) last (omega arith) refl (sets-eq header t 0 (omega arith)) e ∙ ap (λ (v : List ℕ). placed 0 v t) words
 
 -- the sizes of an image
 pub record Sizes (bs : List ℕ) : Type 0 where
   pub r-high : imageR bs ≤ 8
   pub few : imageCount bs ≤ 256
-  pub whole : length bs ≡ 13 + imageCount bs * fieldSize (imageR bs)
+  pub whole : length bs ≡ imageSize (imageR bs) (imageCount bs)
 
 pub image-sizes : (bs : List ℕ) → isImage bs ≡ true → Sizes bs
 unfolding isImage
 image-sizes bs h =
     let a = and-true (formed space (tableIn bs)) _ h in
     let f = formed-facts space (tableIn bs) (a .0) in
-    let n = in-length (imageR bs) (imageCount bs) (drop 10 bs) in
+    let n = in-length (imageR bs) (imageCount bs) (drop firstSize bs) in
     record {
       r-high = f .r-high;
       few = rw n at (f .count-high);
-      whole = ap length (sym (same-eq (imageOf (tableIn bs)) bs (a .1))) ∙ image-length (tableIn bs) (in-lists (imageR bs) (imageCount bs) (drop 10 bs)) ∙ ap (λ (k : ℕ). 13 + k * fieldSize (imageR bs)) n;
+      whole = ap length (sym (same-eq (imageOf (tableIn bs)) bs (a .1))) ∙ image-length (tableIn bs) (in-lists (imageR bs) (imageCount bs) (drop firstSize bs)) ∙ ap (imageSize (imageR bs)) n;
     }
 
 -- the answers of `read`
@@ -104,17 +105,17 @@ module _ (ws bs : List ℕ) where
   no-image i = (rw i, rw i)
 
   module _ (i : isImage bs ≡ true) where
-    counts : size (tableIn bs) ≡ 3 + imageCount bs * recordSize (imageR bs)
-    counts = rw (in-length (imageR bs) (imageCount bs) (drop 10 bs))
+    counts : size (tableIn bs) ≡ headerSize + imageCount bs * recordSize (imageR bs)
+    counts = rw (in-length (imageR bs) (imageCount bs) (drop firstSize bs))
 
-    pub no-words : length ws < 3 + imageCount bs * recordSize (imageR bs) → (declined 10 ≡ readAnswer ws bs) × (ws ≡ readWords ws bs)
+    pub no-words : length ws < headerSize + imageCount bs * recordSize (imageR bs) → (declined 10 ≡ readAnswer ws bs) × (ws ≡ readWords ws bs)
     unfolding readAnswer readWords readRefusal
     no-words h =
         let l : length ws < size (tableIn bs) = rw counts h in
         (rw (i, lt-ltb (length ws) (size (tableIn bs)) l), rw (i, lt-ltb (length ws) (size (tableIn bs)) l))
 
-    pub read : (n : ℕ) (last : List ℕ) → n ≡ imageCount bs → 3 + imageCount bs * recordSize (imageR bs) ≤ length ws → last ≡ placed 0 (wordsOf (tableIn bs)) ws → (accepted (n ∷ []) ≡ readAnswer ws bs) × (last ≡ readWords ws bs)
+    pub read : (n : ℕ) (last : List ℕ) → n ≡ imageCount bs → headerSize + imageCount bs * recordSize (imageR bs) ≤ length ws → last ≡ placed 0 (wordsOf (tableIn bs)) ws → (accepted (n ∷ []) ≡ readAnswer ws bs) × (last ≡ readWords ws bs)
     unfolding readAnswer readWords readRefusal
     read n last e h p =
         let l : size (tableIn bs) ≤ length ws = rw counts h in
-        (rw (i, le-ltb (length ws) (size (tableIn bs)) l, e, in-length (imageR bs) (imageCount bs) (drop 10 bs)), rw (i, le-ltb (length ws) (size (tableIn bs)) l) (p ∙ front (wordsOf (tableIn bs)) ws))
+        (rw (i, le-ltb (length ws) (size (tableIn bs)) l, e, in-length (imageR bs) (imageCount bs) (drop firstSize bs)), rw (i, le-ltb (length ws) (size (tableIn bs)) l) (p ∙ front (wordsOf (tableIn bs)) ws))

@@ -8,15 +8,15 @@ use native.Mathlib.Numerals.{add-one}
 use native.Mathlib.Omega.{arith}
 use lib.Dec.{leb, ltb, eqb, leb·zero}
 use lib.ListN.{length, take, drop, take-append-drop, length-drop, length-take, drop-of-length-le}
-use lib.Seq.{drop-drop}
 use borrow.Author.Tests.{eqb-true, eqb-false, eq-eqb, ne-eqb, lt-ltb, le-leb, lt-leb}
 use Rattle.model.specs.Lists.{every, same, rising, risingFrom}
 use Rattle.model.specs.Identifier.{space}
-use Rattle.model.specs.Table.{Member, ids, formedMember, formed}
-use Rattle.model.specs.Image.{bytesOf, numberFrom, numberAt, numbersAt, field, memberField, memberFields, imageOf, memberLength, fieldMember, fieldMembers, imageR, imageCount, tableIn, isImage}
-use Rattle.laws.specs.Bytes.{Bytes, bytes-drop, number-below, numbers-length, same-eq, fieldSize, contents, contents-written, cut, said-at, image-length, in-length, in-lists}
+use Rattle.model.specs.Table.{Member, recordSize, recordOf, ids, formedMember, formed}
+use Rattle.model.specs.Image.{bytesOf, numberFrom, numberAt, numbersAt, field, memberField, memberFields, imageOf, fieldHead, headerLength, memberLength, fieldMember, fieldMembers, imageR, imageCount, tableIn, isImage}
+use Rattle.laws.specs.Bytes.{Bytes, bytes-drop, number-below, numbers-length, words-said, same-eq, fieldSize, contents, contents-written, cut, said-at, image-length, in-length, in-lists}
 use Rattle.table.specs.Tests.{rightPending}
-use Rattle.fields.specs.Placed.{headIs}
+use Rattle.table.proofs.Formed.{Bounded, member-right}
+use Rattle.fields.specs.Fields.{firstSize, imageSize, headIs, imageSteps, idIn}
 use Rattle.judge.specs.Tests.{fieldRight, fieldsRight}
 
 -- Equal lists, in parts
@@ -46,30 +46,34 @@ combine true w s {x} {x'} e f = rw (e, ← f) (sym (and-assoc x' w s))
 combine false w s {x} {x'} e f = rw (e, ← f) (sym (and-assoc x' false s))
 
 -- a field against the bytes that begin with its contents: its head, and what follows
-same-field : (tag k : ℕ) (c z bs : List ℕ) → Bytes bs → k < 65536 → 3 + k ≤ length bs → c ≡ take k (drop 3 bs) → same (field tag c ++ z) bs ≡ (headIs bs tag k && same z (drop (3 + k) bs))
+same-field : (tag k : ℕ) (c z bs : List ℕ) → Bytes bs → k < 65536 → fieldHead + k ≤ length bs → c ≡ take k (drop fieldHead bs) → same (field tag c ++ z) bs ≡ (headIs bs tag k && same z (drop (fieldHead + k) bs))
 same-field tag k c z [] h hk l e = absurd (omega arith)
 same-field tag k c z (a ∷ []) h hk l e = absurd (omega arith)
 same-field tag k c z (a ∷ b ∷ []) h hk l e = absurd (omega arith)
 same-field tag k c z (a ∷ b ∷ d ∷ rest) h hk l e =
     let n : length c ≡ k = ap length e ∙ rw length-take (omega arith) in
-    let q : 3 + k ≡ suc (suc (suc k)) = omega arith in
+    let q : fieldHead + k ≡ suc (suc (suc k)) = omega arith in
     let whole : c ++ drop k rest ≡ rest = rw e (take-append-drop k rest) in
     let behind : same (c ++ z) rest ≡ same z (drop k rest) = ap (same (c ++ z)) (sym whole) ∙ same-behind c z (drop k rest) in
     rw (n, q, behind) (combine (eqb (k / 256 % 256) b) (eqb (k % 256) d) (same z (drop k rest)) (eqb-sym tag a) (same-two k b d hk (h 1) (h 2)))
 
 -- Members
 
-numbers-below : (n : ℕ) (bs : List ℕ) → Bytes bs → 4 * n ≤ length bs → every (λ x. ltb x space) (numbersAt n bs) ≡ true
-numbers-below zero bs h l = refl
-numbers-below (suc n) bs h l = rw (lt-ltb (numberAt bs 0 4) space (number-below 4 0 bs h (omega arith))) (numbers-below n (drop 4 bs) (bytes-drop 4 bs h) (rw length-drop (omega arith)))
+numbers-below : (n : ℕ) (bs : List ℕ) → Bytes bs → 4 * n ≤ length bs → Bounded (numbersAt n bs)
+numbers-below zero bs h l i = omega arith
+numbers-below (suc n) bs h l zero = number-below 4 0 bs h (omega arith)
+numbers-below (suc n) bs h l (suc i) = numbers-below n (drop 4 bs) (bytes-drop 4 bs h) (rw length-drop (omega arith)) i
 
--- four bytes are an identifier: what is pending is left to test
+-- the words of the record that a field's contents say
+words-below : (r : ℕ) (bs : List ℕ) → Bytes bs → memberLength r ≤ length bs → Bounded (recordOf (fieldMember r bs))
+words-below r bs h l zero = number-below 4 0 bs h (omega arith)
+words-below r bs h l (suc zero) = number-below 4 4 bs h (omega arith)
+words-below r bs h l (suc (suc zero)) = omega (arith, number-below 1 8 bs h (omega arith))
+words-below r bs h l (suc (suc (suc i))) = rw (words-said r bs) at (numbers-below (recordSize r - 3) (drop 9 bs) (bytes-drop 9 bs h) (rw length-drop (omega arith)) i)
+
+-- so what is pending is left to test
 member-tests : (r : ℕ) (bs : List ℕ) → Bytes bs → memberLength r ≤ length bs → formedMember space r (fieldMember r bs) ≡ rightPending (numberAt bs 8 1) (numberAt bs 9 4)
-unfolding formedMember rightPending
-member-tests r bs h l =
-    let small : (at : ℕ) → at + 4 ≤ length bs → ltb (numberAt bs at 4) space ≡ true = λ at le. lt-ltb (numberAt bs at 4) space (number-below 4 at bs h le) in
-    let list = numbers-below r (drop 13 bs) (bytes-drop 13 bs h) (rw length-drop (omega arith)) in
-    rw (eq-eqb (length (numbersAt r (drop 13 bs))) r (numbers-length r (drop 13 bs)), small 0 (omega arith), small 4 (omega arith), small 9 (omega arith), list, and-true, and-true)
+member-tests r bs h l = member-right r (fieldMember r bs) (numbers-length r (drop 13 bs)) (words-below r bs h l)
 
 regroup : (h a f r e s : Bool) → ((a && r) && (f && e) && (h && s)) ≡ ((h && a && f) && (r && e && s))
 regroup true true true r e s = refl
@@ -88,77 +92,76 @@ asked r n bs rise = rise && every (formedMember space r) (fieldMembers r n bs) &
 
 module _ (r : ℕ) (hr : r ≤ 8) where
   -- the first of them: the test a of its identifier, and those of the others
-  one-field : (n lo : ℕ) (bs : List ℕ) (a rise : Bool) → Bytes bs → length bs ≡ suc n * fieldSize r + 3 → a ≡ leb lo (numberAt bs 3 4) → asked r n (drop (fieldSize r) bs) rise ≡ fieldsRight r (numberAt bs 3 4 + 1) n (drop (fieldSize r) bs) → asked r (suc n) bs (a && rise) ≡ fieldsRight r lo (suc n) bs
+  one-field : (n lo : ℕ) (bs : List ℕ) (a rise : Bool) → Bytes bs → length bs ≡ suc n * fieldSize r + fieldHead → a ≡ leb lo (idIn bs) → asked r n (drop (fieldSize r) bs) rise ≡ fieldsRight r (idIn bs + 1) n (drop (fieldSize r) bs) → asked r (suc n) bs (a && rise) ≡ fieldsRight r lo (suc n) bs
   unfolding fieldRight
   one-field n lo bs a rise h l e ih =
       let s = suc-mul n (fieldSize r) in
-      let f : List ℕ = drop 3 bs in
+      let f : List ℕ = drop fieldHead bs in
       let m : Member = fieldMember r f in
       let rest : List ℕ = drop (fieldSize r) bs in
       let z : List ℕ = memberFields (fieldMembers r n rest) ++ field 3 [] in
-      let hf = bytes-drop 3 bs h in
+      let hf = bytes-drop fieldHead bs h in
       let lf : memberLength r ≤ length f = rw length-drop (omega arith) in
       let head : Bool = headIs bs 2 (memberLength r) in
       let others : Bool = every (formedMember space r) (fieldMembers r n rest) in
       let bytes : same ((memberField m ++ memberFields (fieldMembers r n rest)) ++ field 3 []) bs ≡ (head && same z rest) = ap (λ (v : List ℕ). same v bs) (append-assoc (memberField m) (memberFields (fieldMembers r n rest)) (field 3 [])) ∙ same-field 2 (memberLength r) (contents m) z bs h (omega arith) (omega arith) (contents-written r f hf lf) in
-      let right : formedMember space r m ≡ rightPending (numberAt bs 11 1) (numberAt bs 12 4) = member-tests r f hf lf ∙ ap₂ rightPending (ap (λ (v : List ℕ). numberFrom 0 (take 1 v)) (drop-drop 8 3 bs)) (ap (λ (v : List ℕ). numberFrom 0 (take 4 v)) (drop-drop 9 3 bs)) in
       ap (λ (x : Bool). (a && rise) && (formedMember space r m && others) && x) bytes
       ∙ regroup head a (formedMember space r m) rise others (same z rest)
-      ∙ ap₂ (λ (p q : Bool). p && q) (ap₂ (λ (u v : Bool). head && u && v) e right) ih
+      ∙ ap₂ (λ (p q : Bool). p && q) (ap₂ (λ (u v : Bool). head && u && v) e (member-tests r f hf lf)) ih
 
-  no-field : (bs : List ℕ) (rise : Bool) → Bytes bs → length bs ≡ 0 * fieldSize r + 3 → rise ≡ true → asked r 0 bs rise ≡ headIs bs 3 0
-  no-field bs rise h l e = rw (e, same-field 3 0 [] [] bs h (omega arith) (omega arith) refl, drop-of-length-le bs {i = 3} (omega arith), and-true)
+  no-field : (bs : List ℕ) (rise : Bool) → Bytes bs → length bs ≡ 0 * fieldSize r + fieldHead → rise ≡ true → asked r 0 bs rise ≡ headIs bs 3 0
+  no-field bs rise h l e = rw (e, same-field 3 0 [] [] bs h (omega arith) (omega arith) refl, drop-of-length-le bs {i = fieldHead} (omega arith), and-true)
 
-  rest-fits : (n : ℕ) (bs : List ℕ) → length bs ≡ suc n * fieldSize r + 3 → length (drop (fieldSize r) bs) ≡ n * fieldSize r + 3
+  rest-fits : (n : ℕ) (bs : List ℕ) → length bs ≡ suc n * fieldSize r + fieldHead → length (drop (fieldSize r) bs) ≡ n * fieldSize r + fieldHead
   rest-fits n bs l = rw length-drop (omega (arith, suc-mul n (fieldSize r)))
 
-  later-fields : (n lo : ℕ) (bs : List ℕ) → Bytes bs → length bs ≡ n * fieldSize r + 3 → asked r n bs (risingFrom lo (ids (fieldMembers r n bs))) ≡ fieldsRight r (lo + 1) n bs
+  later-fields : (n lo : ℕ) (bs : List ℕ) → Bytes bs → length bs ≡ n * fieldSize r + fieldHead → asked r n bs (risingFrom lo (ids (fieldMembers r n bs))) ≡ fieldsRight r (lo + 1) n bs
   later-fields zero lo bs h l = no-field bs true h l refl
   later-fields (suc n) lo bs h l =
       let rest : List ℕ = drop (fieldSize r) bs in
-      one-field n (lo + 1) bs (ltb lo (numberAt bs 3 4)) _ h l (rw (add-one lo)) (later-fields n (numberAt bs 3 4) rest (bytes-drop (fieldSize r) bs h) (rest-fits n bs l))
+      one-field n (lo + 1) bs (ltb lo (idIn bs)) _ h l (rw (add-one lo)) (later-fields n (idIn bs) rest (bytes-drop (fieldSize r) bs h) (rest-fits n bs l))
 
-  all-fields : (n : ℕ) (bs : List ℕ) → Bytes bs → length bs ≡ n * fieldSize r + 3 → asked r n bs (rising (ids (fieldMembers r n bs))) ≡ fieldsRight r 0 n bs
+  all-fields : (n : ℕ) (bs : List ℕ) → Bytes bs → length bs ≡ n * fieldSize r + fieldHead → asked r n bs (rising (ids (fieldMembers r n bs))) ≡ fieldsRight r 0 n bs
   all-fields zero bs h l = no-field bs true h l refl
   all-fields (suc n) bs h l =
       let rest : List ℕ = drop (fieldSize r) bs in
-      one-field n 0 bs true (risingFrom (numberAt bs 3 4) (ids (fieldMembers r n rest))) h l (sym (leb·zero (numberAt bs 3 4))) (later-fields n (numberAt bs 3 4) rest (bytes-drop (fieldSize r) bs h) (rest-fits n bs l))
+      one-field n 0 bs true (risingFrom (idIn bs) (ids (fieldMembers r n rest))) h l (sym (leb·zero (idIn bs))) (later-fields n (idIn bs) rest (bytes-drop (fieldSize r) bs h) (rest-fits n bs l))
 
 -- The whole image
 
 module _ (bs : List ℕ) (h : Bytes bs) where
   -- the first field's contents
-  header-bytes : 10 ≤ length bs → bytesOf 1 (imageR bs) ++ (bytesOf 2 (imageCount bs) ++ bytesOf 4 (numberAt bs 6 4)) ≡ take 7 (drop 3 bs)
+  header-bytes : firstSize ≤ length bs → bytesOf 1 (imageR bs) ++ (bytesOf 2 (imageCount bs) ++ bytesOf 4 (imageSteps bs)) ≡ take headerLength (drop fieldHead bs)
   header-bytes l = cut 3 1 6 bs _ _ (said-at 1 3 bs h (omega arith)) (cut 4 2 4 bs _ _ (said-at 2 4 bs h (omega arith)) (said-at 4 6 bs h (omega arith)))
 
-  sizes-right : 1 ≤ imageR bs → imageR bs ≤ 8 → imageCount bs ≤ 256 → 10 ≤ length bs → formed space (tableIn bs) ≡ (rising (ids (tableIn bs .members)) && every (formedMember space (imageR bs)) (tableIn bs .members))
+  sizes-right : 1 ≤ imageR bs → imageR bs ≤ 8 → imageCount bs ≤ 256 → firstSize ≤ length bs → formed space (tableIn bs) ≡ (rising (ids (tableIn bs .members)) && every (formedMember space (imageR bs)) (tableIn bs .members))
   unfolding formed
   sizes-right lo hi few l =
-      rw (le-leb 1 (imageR bs) lo, le-leb (imageR bs) 8 hi, in-length (imageR bs) (imageCount bs) (drop 10 bs), le-leb (imageCount bs) 256 few, lt-ltb (numberAt bs 6 4) space (number-below 4 6 bs h (omega arith)))
+      rw (le-leb 1 (imageR bs) lo, le-leb (imageR bs) 8 hi, in-length (imageR bs) (imageCount bs) (drop firstSize bs), le-leb (imageCount bs) 256 few, lt-ltb (imageSteps bs) space (number-below 4 6 bs h (omega arith)))
 
-  header-first : 10 ≤ length bs → same (imageOf (tableIn bs)) bs ≡ (headIs bs 1 7 && same (memberFields (tableIn bs .members) ++ field 3 []) (drop 10 bs))
+  header-first : firstSize ≤ length bs → same (imageOf (tableIn bs)) bs ≡ (headIs bs 1 headerLength && same (memberFields (tableIn bs .members) ++ field 3 []) (drop firstSize bs))
   header-first l =
-      let counted = in-length (imageR bs) (imageCount bs) (drop 10 bs) in
-      let contents = ap (λ (n : ℕ). bytesOf 1 (imageR bs) ++ (bytesOf 2 n ++ bytesOf 4 (numberAt bs 6 4))) counted ∙ header-bytes l in
-      same-field 1 7 _ (memberFields (tableIn bs .members) ++ field 3 []) bs h (omega arith) l contents
+      let counted = in-length (imageR bs) (imageCount bs) (drop firstSize bs) in
+      let contents = ap (λ (n : ℕ). bytesOf 1 (imageR bs) ++ (bytesOf 2 n ++ bytesOf 4 (imageSteps bs))) counted ∙ header-bytes l in
+      same-field 1 headerLength _ (memberFields (tableIn bs .members) ++ field 3 []) bs h (omega arith) l contents
 
   -- bytes whose sizes are right are an image by the tests of their fields
-  pub judged : 1 ≤ imageR bs → imageR bs ≤ 8 → imageCount bs ≤ 256 → length bs ≡ 13 + imageCount bs * fieldSize (imageR bs) → isImage bs ≡ (headIs bs 1 7 && fieldsRight (imageR bs) 0 (imageCount bs) (drop 10 bs))
+  pub judged : 1 ≤ imageR bs → imageR bs ≤ 8 → imageCount bs ≤ 256 → length bs ≡ imageSize (imageR bs) (imageCount bs) → isImage bs ≡ (headIs bs 1 headerLength && fieldsRight (imageR bs) 0 (imageCount bs) (drop firstSize bs))
   unfolding isImage
   judged lo hi few l =
-      let f : List ℕ = drop 10 bs in
-      let lf : length f ≡ imageCount bs * fieldSize (imageR bs) + 3 = rw length-drop (omega arith) in
+      let f : List ℕ = drop firstSize bs in
+      let lf : length f ≡ imageCount bs * fieldSize (imageR bs) + fieldHead = rw length-drop (omega arith) in
       ap₂ (λ (p q : Bool). p && q) (sizes-right lo hi few (omega arith)) (header-first (omega arith))
-      ∙ swap (rising (ids (tableIn bs .members)) && every (formedMember space (imageR bs)) (tableIn bs .members)) (headIs bs 1 7) _
-      ∙ ap (λ (q : Bool). headIs bs 1 7 && q) (all-fields (imageR bs) hi (imageCount bs) f (bytes-drop 10 bs h) lf)
+      ∙ swap (rising (ids (tableIn bs .members)) && every (formedMember space (imageR bs)) (tableIn bs .members)) (headIs bs 1 headerLength) _
+      ∙ ap (λ (q : Bool). headIs bs 1 headerLength && q) (all-fields (imageR bs) hi (imageCount bs) f (bytes-drop firstSize bs h) lf)
 
 -- bytes of another length are none
-pub wrong-length : (bs : List ℕ) → (length bs ≡ 13 + imageCount bs * fieldSize (imageR bs) → ⊥) → isImage bs ≡ false
+pub wrong-length : (bs : List ℕ) → (length bs ≡ imageSize (imageR bs) (imageCount bs) → ⊥) → isImage bs ≡ false
 unfolding isImage
 wrong-length bs n = go (same (imageOf (tableIn bs)) bs) refl
   where
     go : (b : Bool) → same (imageOf (tableIn bs)) bs ≡ b → (formed space (tableIn bs) && b) ≡ false
-    go true e = absurd (n (sym (ap length (same-eq (imageOf (tableIn bs)) bs e)) ∙ image-length (tableIn bs) (in-lists (imageR bs) (imageCount bs) (drop 10 bs)) ∙ ap (λ (k : ℕ). 13 + k * fieldSize (imageR bs)) (in-length (imageR bs) (imageCount bs) (drop 10 bs))))
+    go true e = absurd (n (sym (ap length (same-eq (imageOf (tableIn bs)) bs e)) ∙ image-length (tableIn bs) (in-lists (imageR bs) (imageCount bs) (drop firstSize bs)) ∙ ap (imageSize (imageR bs)) (in-length (imageR bs) (imageCount bs) (drop firstSize bs))))
     go false e = and-false (formed space (tableIn bs))
 
 -- nor are those with another r, or with more members
@@ -176,9 +179,9 @@ module _ (bs : List ℕ) where
   many h = simp (in-length, lt-leb (imageCount bs) 256 h, and-false)
 
 -- and where the sizes are right, the first field's head settles it, or leaves the others
-module _ (bs : List ℕ) (f : Bool) (e : isImage bs ≡ (headIs bs 1 7 && f)) where
-  pub right-head : headIs bs 1 7 ≡ true → f ≡ isImage bs
+module _ (bs : List ℕ) (f : Bool) (e : isImage bs ≡ (headIs bs 1 headerLength && f)) where
+  pub right-head : headIs bs 1 headerLength ≡ true → f ≡ isImage bs
   right-head t = sym (rw t at e)
 
-  pub wrong-head : headIs bs 1 7 ≡ false → false ≡ isImage bs
+  pub wrong-head : headIs bs 1 headerLength ≡ false → false ≡ isImage bs
   wrong-head t = sym (rw t at e)

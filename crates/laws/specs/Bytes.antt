@@ -12,8 +12,8 @@ use lib.Seq.{length-take-le, take-add, drop-at, drop-drop, getD-drop}
 use borrow.Author.Tests.{eqb-true, eq-eqb}
 use Rattle.model.specs.Lists.{same}
 use Rattle.model.specs.Identifier.{space}
-use Rattle.model.specs.Table.{Member, Table}
-use Rattle.model.specs.Image.{bytesOf, numberFrom, numberAt, words4, field, memberField, memberFields, imageOf, fieldHead, memberLength, numbersAt, fieldMember, fieldMembers, tableIn}
+use Rattle.model.specs.Table.{Member, Table, recordSize, recordOf}
+use Rattle.model.specs.Image.{bytesOf, numberFrom, numberAt, words4, field, memberField, memberFields, imageOf, fieldHead, headerLength, memberLength, numbersAt, fieldMember, fieldMembers, tableIn}
 use Rattle.laws.specs.Lists.{In, here, there, in-cons, in-nil, and-true, true-and}
 use Rattle.laws.specs.Parts.{drop-take, part-of-part}
 use Rattle.laws.specs.Words.{Lengths}
@@ -127,7 +127,7 @@ pub contents-length : (r : ℕ) (m : Member) → length (m .successors) ≡ r �
 contents-length r m e = omega (arith, words-length (m .successors))
 
 pub field-length : (r : ℕ) (m : Member) → length (m .successors) ≡ r → length (memberField m) ≡ fieldSize r
-field-length r m e = omega (arith, words-length (m .successors))
+field-length r m e = omega (arith, contents-length r m e)
 
 pub contents-read : (r : ℕ) (m : Member) (rest : List ℕ) → FormedMember space r m → fieldMember r (contents m ++ rest) ≡ m
 contents-read r m rest f = λ i. record {
@@ -171,6 +171,10 @@ contents-written r bs h l =
     let q : 4 + (4 + (1 + (4 + 4 * r))) ≡ memberLength r = omega arith in
     c0 ∙ ap (λ (n : ℕ). take n bs) q
 
+-- the words that a field's contents say after pending
+pub words-said : (r : ℕ) (bs : List ℕ) → numbersAt (recordSize r - 3) (drop 9 bs) ≡ drop 3 (recordOf (fieldMember r bs))
+words-said r bs = let q : recordSize r - 3 ≡ suc r = omega arith in rw q (ap (λ (l : List ℕ). numberAt bs 9 4 ∷ numbersAt r l) (drop-drop 4 9 bs))
+
 -- Members and their fields
 
 pub in-length : (r n : ℕ) (bs : List ℕ) → length (fieldMembers r n bs) ≡ n
@@ -196,7 +200,7 @@ fields-read r (m ∷ ms) rest h =
 
 -- A table and its image
 
-pub image-length : (T : Table) → Lengths (T .r) (T .members) → length (imageOf T) ≡ 13 + length (T .members) * fieldSize (T .r)
+pub image-length : (T : Table) → Lengths (T .r) (T .members) → length (imageOf T) ≡ fieldHead + headerLength + fieldHead + length (T .members) * fieldSize (T .r)
 image-length T h = omega (arith, length-append (memberFields (T .members)) (field 3 []), fields-length (T .r) (T .members) h)
 
 pub image-read : (T : Table) → Formed space T → tableIn (imageOf T) ≡ T

@@ -1,10 +1,10 @@
 -- Parts of a word list, and records one after the other in it: what a loop over records cites. Assumes nothing.
 use Prim.Native.Nat.{ℕ, zero, suc, _+_, _*_, _-_, _≤_, _<_}
 use mathlib.Core.Path.{_≡_, sym, _∙_}
-use mathlib.Core.List.{List, [], _∷_}
+use mathlib.Core.List.{List, [], _∷_, _++_, append-nil}
 use native.Mathlib.Omega.{arith}
 use native.Mathlib.Nat.{suc-mul}
-use lib.ListN.{length, getD, take, drop, length-drop}
+use lib.ListN.{length, getD, take, drop, length-drop, drop-of-length-le}
 use lib.Seq.{take-all, take-nil, take-take, getD-take, getD-drop}
 use Rattle.model.specs.Table.{recordSize, memberOf, membersOf}
 use Rattle.model.specs.Ring.{successor}
@@ -12,6 +12,12 @@ use Rattle.model.specs.Ring.{successor}
 -- the part from a on is the list without its first a elements
 pub part-from : {A : Type 0} (a : ℕ) (l : List A) → take (length l - a) (drop a l) ≡ drop a l
 part-from a l = take-all (length l - a) (drop a l) (simp length-drop (omega arith))
+
+-- a lent tail that came back
+pub tail-back : {A : Type 0} (at : ℕ) (l k : List A) → take at l ++ (k ++ drop (length l - at) (drop at l)) ≡ take at l ++ k
+tail-back at l k =
+    let n : length (drop at l) ≤ length l - at = simp length-drop (omega arith) in
+    rw (drop-of-length-le (drop at l) n, append-nil k)
 
 module _ {A : Type 0} where
   -- the part from a on of the first n elements
@@ -48,6 +54,6 @@ module _ (r n : ℕ) (ws : List ℕ) (some : 0 < n) (fits : n * recordSize r ≤
 pub successor-word : (r : ℕ) (ws : List ℕ) → 1 ≤ r → successor (memberOf r ws) ≡ getD ws 4 0
 successor-word r ws h = getD-take r (drop 4 ws) 0 0 h ∙ getD-drop 4 ws 0 0
 
--- the part of its r + 4 words says the same member
-pub member-part : (r : ℕ) (ws : List ℕ) → memberOf r (take (recordSize r) ws) ≡ memberOf r ws
-member-part r ws = rw (getD-take (recordSize r) ws 0 0 (omega arith), getD-take (recordSize r) ws 1 0 (omega arith), getD-take (recordSize r) ws 2 0 (omega arith), getD-take (recordSize r) ws 3 0 (omega arith), part-of-part 4 r (recordSize r) ws (omega arith))
+-- the part of a record's words says the same member
+pub member-part : (r w : ℕ) (ws : List ℕ) → w ≡ recordSize r → memberOf r (take w ws) ≡ memberOf r ws
+member-part r w ws e = rw (e, getD-take (recordSize r) ws 0 0 (omega arith), getD-take (recordSize r) ws 1 0 (omega arith), getD-take (recordSize r) ws 2 0 (omega arith), getD-take (recordSize r) ws 3 0 (omega arith), part-of-part 4 r (recordSize r) ws (omega arith))

@@ -16,7 +16,7 @@ Lengths r ms = (m : Member) → In m ms → length (m .successors) ≡ r
 
 -- Reading what was written
 
-record-length : (r : ℕ) (m : Member) → length (m .successors) ≡ r → length (recordOf m) ≡ recordSize r
+pub record-length : (r : ℕ) (m : Member) → length (m .successors) ≡ r → length (recordOf m) ≡ recordSize r
 record-length r m e = omega arith
 
 pub record-read : (r : ℕ) (m : Member) (rest : List ℕ) → length (m .successors) ≡ r → memberOf r (recordOf m ++ rest) ≡ m
@@ -43,7 +43,7 @@ members-length r (suc n) ws = ap suc (members-length r n (drop (recordSize r) ws
 
 pub records-length : (r : ℕ) (ms : List Member) → Lengths r ms → length (recordsOf ms) ≡ length ms * recordSize r
 records-length r [] h = omega arith
-records-length r (m ∷ ms) h = rw (length-append (recordOf m) (recordsOf ms)) (omega (arith, h m (here refl), records-length r ms (λ k i. h k (there i))))
+records-length r (m ∷ ms) h = rw (length-append (recordOf m) (recordsOf ms)) (omega (arith, record-length r m (h m (here refl)), records-length r ms (λ k i. h k (there i))))
 
 pub words-length : (T : Table) → Lengths (T .r) (T .members) → length (wordsOf T) ≡ size T
 words-length T h = omega (arith, records-length (T .r) (T .members) h)

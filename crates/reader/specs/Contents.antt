@@ -67,7 +67,7 @@ module _ (bs : List ℕ) (at : ℕ) where
       record { field = d; is-due = e; tag = s .1; size = s .2; contents = c; whole = rw c (part-length d (s .0)); next = rw f }
 
   not-handed : fieldAt bs at ≡ declined 9 → NotHanded bs at
-  not-handed f = record { nine = f; stays = rw f; empty = rw f }
+  not-handed f = record { nine = f; stays = rw f; empty = rw (f, le-leb 0 (length bs) (omega arith)) }
 
   -- the three ways of `fieldAt`
   none-due : due bs at ≡ none → fieldAt bs at ≡ declined 9

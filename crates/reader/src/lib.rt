@@ -1,11 +1,11 @@
 // Reading an image field by field: a reader that holds the image and its position, and hands out one field a call.
-// The borrow checker covers no function over such a struct: `new`, `contents`, `pull` and `second` are proved by hand,
-// and leave all tests to `image::field_at`, `next_of` and `part_of`.
+// The borrow checker covers no function over such a struct: `new`, `contents` and `pull` are proved by hand,
+// and leave all tests to `due::field_at`, `next_of` and `part_of`.
 ghost use mathlib.Core.Path.{_≡_};
 ghost use Rattle.model.specs.Image.{fieldAt};
-ghost use Rattle.reply.specs.Answers.{answerOf};
+ghost use Rattle.field.specs.Answers.{answerOf};
 ghost use Rattle.reader.specs.Read.{nextOf, partOf, contentsOf, advanced};
-use reply::Reply;
+use field::Field;
 
 // The image, and the position of the field that is next.
 pub struct Reader<'a> {
@@ -13,15 +13,13 @@ pub struct Reader<'a> {
     pub at: usize,
 }
 
-// Where the reader stands after a reply at a position: past the field, or where it was.
-// A report has a field's four values, and so the same answer: here and in `part_of` it is taken for a field.
-pub fn next_of(f: Reply, at: usize) -> usize
+// Where the reader stands after an answer at a position: past the field, or where it was.
+pub fn next_of(f: Field, at: usize) -> usize
     ensures { λ k. ⌜ k ≡ nextOf (answerOf f) at ⌝ }
 {
     match f {
-        Reply::Field(_, _, _, next) => next as usize,
-        Reply::Report(_, _, _, last) => last as usize,
-        _ => at,
+        Field::At(_, _, _, next) => next as usize,
+        Field::Declined(_) => at,
     }
 }
 
@@ -37,14 +35,13 @@ fn part(image: &[u8], start: u32, size: u32) -> &[u8]
     &image[0..0]
 }
 
-// The part of an image that is the contents of a field, or the empty part where the reply is no field within the image.
-pub fn part_of(image: &[u8], f: Reply) -> &[u8]
+// The part of an image that is the contents of a field, or the empty part where there is none within the image.
+pub fn part_of(image: &[u8], f: Field) -> &[u8]
     ensures { λ p. ⌜ now p ≡ contentsOf (answerOf f) (now (image .entry)) ⌝ }
 {
     match f {
-        Reply::Field(_, start, size, _) => part(image, start, size),
-        Reply::Report(_, start, size, _) => part(image, start, size),
-        _ => part(image, 0, 0),
+        Field::At(_, start, size, _) => part(image, start, size),
+        Field::Declined(_) => part(image, 0, 0),
     }
 }
 
@@ -56,28 +53,19 @@ pub fn new<'a>(image: &'a [u8]) -> Reader<'a>
 }
 
 // One field a call: the field at the reader's position, and the reader stands past it; or 9, and it stays.
-pub fn pull<'s, 'a>(r: &'s mut Reader<'a>) -> Reply
+pub fn pull<'s, 'a>(r: &'s mut Reader<'a>) -> Field
     ensures { λ f. ⌜ (answerOf f ≡ fieldAt (now (now (r .entry) .image)) (now (r .entry) .at)) × (now (r .exit) ≡ advanced (now (r .entry))) ⌝ }
 {
     let at = r.at;
-    let f = image::field_at(r.image, at);
+    let f = due::field_at(r.image, at);
     let to = next_of(f, at);
     r.at = to;
     f
 }
 
 // The part of the reader's image that is the contents of a field that it handed out.
-pub fn contents<'a>(r: Reader<'a>, f: Reply) -> &'a [u8]
+pub fn contents<'a>(r: Reader<'a>, f: Field) -> &'a [u8]
     ensures { λ p. ⌜ now p ≡ contentsOf (answerOf f) (now (r .entry .image)) ⌝ }
 {
     part_of(r.image, f)
-}
-
-// The second field of an image: a reader in a local, lent twice.
-pub fn second(image: &[u8]) -> Reply
-    ensures { λ f. ⌜ answerOf f ≡ fieldAt (now (image .entry)) (nextOf (fieldAt (now (image .entry)) 0) 0) ⌝ }
-{
-    let mut r = new(image);
-    pull(&mut r);
-    pull(&mut r)
 }

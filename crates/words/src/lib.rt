@@ -7,12 +7,37 @@ ghost use Rattle.model.specs.Table.{headerSize, recordSize, memberOf, recordOf}
 ghost use Rattle.member.specs.View.{view};
 use member::Member;
 
+// The words of the header: r, member count, step count.
+pub const HEADER: usize = 3;
+
+// Where a record's list starts: after identifier, predecessor, pending and candidate.
+pub const LIST: usize = 4;
+
+// The words of the longest table: 256 records with lists of 8.
+pub const LONGEST: usize = HEADER + 256 * (LIST + 8);
+
+// The words of one record.
+pub fn width(r: usize) -> usize
+    requires { ⌜ r ≤ 255 ⌝ }
+    ensures { λ w. ⌜ w ≡ recordSize r ⌝ }
+{
+    LIST + r
+}
+
+// The records of a table: what stands after its header.
+pub fn records_of(t: &[u32]) -> &[u32]
+    requires { ⌜ headerSize ≤ length (now t) ⌝ }
+    ensures { λ p. ⌜ now p ≡ drop headerSize (now (t .entry)) ⌝ }
+{
+    &t[HEADER..]
+}
+
 // Where the record of index k starts in a table.
 pub fn offset(r: usize, k: usize) -> usize
     requires { ⌜ (r ≤ 8) × (k ≤ 256) ⌝ }
-    ensures { λ o. ⌜ (o ≡ headerSize + k * recordSize r) × (o ≤ 3075) ⌝ }
+    ensures { λ o. ⌜ (o ≡ headerSize + k * recordSize r) × (o ≤ headerSize + 256 * recordSize 8) ⌝ }
 {
-    3 + k * (r + 4)
+    HEADER + k * width(r)
 }
 
 // One member's record, read from its part of the table.
@@ -23,7 +48,7 @@ pub fn read_member(part: &[u32], r: usize) -> Member
     let mut l = [0u32; 8];
     let mut i = 0;
     while i < r {
-        l[i] = part[4 + i];
+        l[i] = part[LIST + i];
         i += 1;
     }
     Member {
@@ -47,7 +72,7 @@ pub fn write_member(part: &mut [u32], m: Member, r: usize)
     let l = m.successors;
     let mut i = 0;
     while i < r {
-        part[4 + i] = l[i];
+        part[LIST + i] = l[i];
         i += 1;
     }
 }
@@ -83,6 +108,6 @@ pub fn put_in(tail: &mut [u32], used: usize, m: Member, r: usize)
     requires { ⌜ (r ≤ 8) × (used + recordSize r ≤ length (now tail)) ⌝ }
     ensures { λ _. ⌜ now (tail .exit) ≡ recordOf (view r m) ++ (take used (now (tail .entry)) ++ drop (used + recordSize r) (now (tail .entry))) ⌝ }
 {
-    open_gap(tail, used, r + 4);
+    open_gap(tail, used, width(r));
     write_member(tail, m, r);
 }

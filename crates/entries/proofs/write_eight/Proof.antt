@@ -10,7 +10,7 @@ same-length : tie.Need-same-length
 same-length c = simp length-set
 
 returns : tie.Need-returns
-returns c = let a = c .before .before .before .before .before .before .before .before .args in eight-stored (a .part .now) (a .ys .now) (omega arith) (omega arith)
+returns c = let a = c .before .before .before .before .before .before .before .before .args in eight-stored (a .list .now) (a .ys .now) (omega arith) (omega arith)
 
 pub write-eight-spec : {M : Type 1} → statement M
 write-eight-spec =

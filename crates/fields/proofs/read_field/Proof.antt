@@ -15,14 +15,14 @@ get-words-requires-2 : tie.Need-get-words-requires-2
 get-words-requires-2 c κs = (simp (length-take, length-drop) (omega arith), simp length-set (omega arith))
 
 same-length : tie.Need-same-length
-same-length c = c .before .t2 .given ∙ simp length-set (c .before .before .before .before .before .before .before .t .given)
+same-length c = c .before .t2 .given ∙ simp length-set (c .before .before .before .before .before .before .before .before .t .given)
 
 returns : tie.Need-returns
 returns c =
-    let two = c .before .before .before .before .before .before .before .before in
+    let two = c .before .before .before .before .before .before .before .before .before in
     let a = two .before .before .before .before .before .args in
-    record-read (a .at) (a .r) (a .bs .now) (a .t .now) (two .get-words .last .0) _ (omega arith) (omega arith) (rw part-from at (two .get-words .ensures)) (rw part-from at (c .before .before .get-words2 .ensures))
+    record-read (a .at) (a .r) (a .bs .now) (a .t .now) (two .get-words .last .0) _ (omega arith) (omega arith) (rw part-from at (two .get-words .ensures)) (rw (part-from, c .before .before .before .width .ensures) at (c .before .before .get-words2 .ensures))
 
 pub read-field-spec : {M : Type 1} → statement M
 read-field-spec =
-    tie.close (tie.spec (λ c. search needs) (λ c. search needs) (λ c. search needs) (λ c κs. search needs) (λ c. search needs) cast-t (λ c. search needs) (λ c. search needs) (λ c. search needs) (λ c. search needs) (λ c. search needs) (λ c. search needs) (λ c. search needs) (λ c. search needs) get-words-requires-2 same-length returns)
+    tie.close (tie.spec (λ c. search needs) (λ c. search needs) (λ c. search needs) (λ c κs. search needs) (λ c. search needs) cast-t (λ c. search needs) (λ c. search needs) (λ c. search needs) (λ c. search needs) (λ c. search needs) (λ c. search needs) (λ c. search needs) (λ c κs. search needs) (λ c. search needs) get-words-requires-2 same-length returns)

@@ -2,6 +2,7 @@
 use mathlib.Core.Path.{_∙_}
 use native.Mathlib.Omega.{arith}
 use lib.ListN.{length-set, length-take, length-drop}
+use Rattle.laws.specs.Parts.{part-from}
 use Rattle.fields.proofs.Fields.{field-written}
 use borrow.Author.Needs.{needs}
 use Rattle.fields.proofs.write_field.Statement.{statement}
@@ -17,9 +18,11 @@ returns : tie.Need-returns
 returns c =
     let two = c .before .before .before .before .before .before .before .before in
     let head = two .before .before .before .before .before in
-    let a = head .before .before .before .before .args in
-    field-written (a .at) (a .r) (a .ws .now) (a .out .now) (head .put-head .last .0) (two .put-words .last .0) _ (omega arith) (omega arith) (head .put-head .ensures) (two .put-words .ensures) (c .before .before .put-words2 .ensures)
+    let length = head .before in
+    let start = length .before .before .before .before in
+    let a = start .args in
+    field-written (a .at) (a .r) (a .ws .now) (a .out .now) (head .put-head .last .0) (two .put-words .last .0) _ (start .pre .1) (start .pre .2) (rw (length .member-length .ensures) at (head .put-head .ensures)) (two .put-words .ensures) (rw part-from at (c .before .before .put-words2 .ensures))
 
 pub write-field-spec : {M : Type 1} → statement M
 write-field-spec =
-    tie.close (tie.spec (λ c. search needs) (λ c. search needs) (λ c κs. search needs) (λ c. search needs) (λ c. search needs) (λ c. search needs) (λ c. search needs) (λ c κs. search needs) (λ c. search needs) (λ c. search needs) (λ c. search needs) (λ c. search needs) (λ c. search needs) (λ c. search needs) (λ c. search needs) (λ c. search needs) (λ c. search needs) put-words-requires-2 same-length returns)
+    tie.close (tie.spec (λ c κs. search needs) (λ c κs. search needs) (λ c. search needs) (λ c. search needs) (λ c. search needs) (λ c. search needs) (λ c κs. search needs) (λ c. search needs) (λ c. search needs) (λ c. search needs) (λ c. search needs) (λ c. search needs) (λ c. search needs) (λ c. search needs) (λ c. search needs) put-words-requires-2 same-length returns)

@@ -43,10 +43,10 @@ use denote.Triple.Spec.{Meets, tripleOf}
 use denote.Triple.Table.{entered, cited}
 use denote.Triple.Walked.{Stays, says, stay-none, walkOf, goes-none, Walks, ends-at, walked, walk-meets}
 use denote.Exit.{yes}
-use Rattle.reply.specs.Answers.{answerOf}
-use Rattle.reply.specs.declared.Reply.{Reply}
-use Rattle.reply.proofs.Reply as S
-use Rattle.reply.proofs.Reply.Laws as S′
+use Rattle.field.specs.Answers.{answerOf}
+use Rattle.field.specs.declared.Field.{Field}
+use Rattle.field.proofs.Field as S
+use Rattle.field.proofs.Field.Laws as S′
 use Rattle.reader.specs.Read.{contentsOf}
 use Rattle.reader.specs.declared.Reader.{Reader}
 use Rattle.reader.proofs.Reader as T
@@ -76,7 +76,7 @@ module _ {M : Type 1} (𝓤 : URA M) (H : Heap 𝓤) (A : Atoms 𝓤) (mem : Mem
   abbrev PartOf : Contract 𝓤
   PartOf = tripleOf 𝓤 H A part-of.signature (part-of.spec 𝓤 H A mem run)
 
-module _ {M : Type 1} (𝓤 : URA M) (H : Heap 𝓤) (A : Atoms 𝓤) (W : Given 𝓤 H A) (mem : Memory → SProp 𝓤) (run : Routine → Fun 𝓤) (κ : Lft) (q : Share) (d : Reader) (f : Reply) (gf : Is S.the-row f (EL.vals S.the-type S′.the-laws f)) where
+module _ {M : Type 1} (𝓤 : URA M) (H : Heap 𝓤) (A : Atoms 𝓤) (W : Given 𝓤 H A) (mem : Memory → SProp 𝓤) (run : Routine → Fun 𝓤) (κ : Lft) (q : Share) (d : Reader) (f : Field) (gf : Is S.the-row f (EL.vals S.the-type S′.the-laws f)) where
   -- the machine values of the reader, of its image and of the reply
   abbrev m : Val
   m = T′.lowered d
@@ -89,7 +89,7 @@ module _ {M : Type 1} (𝓤 : URA M) (H : Heap 𝓤) (A : Atoms 𝓤) (W : Given
 
   -- the parameters, and their machine values
   abbrev Arg : Type 0
-  Arg = Reader × (Reply × Unit {0})
+  Arg = Reader × (Field × Unit {0})
 
   abbrev a : Arg
   a = (d, (f, tt))
@@ -121,7 +121,7 @@ module _ {M : Type 1} (𝓤 : URA M) (H : Heap 𝓤) (A : Atoms 𝓤) (W : Given
 
   -- what the callee is passed
   abbrev Passed : Type 0
-  Passed = RefT (List ℕ) × (Reply × Unit {0})
+  Passed = RefT (List ℕ) × (Field × Unit {0})
 
   abbrev b : Passed
   b = (d .image, (f, tt))

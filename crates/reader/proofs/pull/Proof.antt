@@ -1,4 +1,4 @@
--- `reader::pull` meets its contract: a walk of its MIR, by hand. The borrow of the reader is opened; while it is open, `image::field_at` answers on a
+-- `reader::pull` meets its contract: a walk of its MIR, by hand. The borrow of the reader is opened; while it is open, `due::field_at` answers on a
 -- copy of the image at the position, `next_of` says the next position, and it is stored; then the borrow is closed at the reader advanced.
 -- All that the proof knows of the two callees is that they meet their contracts. The cell behind the reference is read and written at the type that
 -- the MIR derefs, whose lifetime is erased (`raw-at`, `at-raw`).
@@ -49,14 +49,14 @@ use denote.Triple.Table.{entered, cited}
 use denote.Triple.Walked.{says, Stays, stay-ref, walkOf, goes-ref, Walks, ends-at, walked, walk-meets}
 use Rattle.model.specs.Answer.{Answer}
 use Rattle.model.specs.Image.{fieldAt}
-use Rattle.image.proofs.field_at as field-at
-use Rattle.image.proofs.field_at.Symbol as field-def
-use Rattle.image.proofs.field_at.Symbol.{name as #image·field-at}
-use Rattle.image.proofs.field_at.Met as field-thm
-use Rattle.reply.specs.Answers.{answerOf}
-use Rattle.reply.specs.declared.Reply.{Reply}
-use Rattle.reply.proofs.Reply as S
-use Rattle.reply.proofs.Reply.Laws as S′
+use Rattle.due.proofs.field_at as field-at
+use Rattle.due.proofs.field_at.Symbol as field-def
+use Rattle.due.proofs.field_at.Symbol.{name as #due·field-at}
+use Rattle.due.proofs.field_at.Met as field-thm
+use Rattle.field.specs.Answers.{answerOf}
+use Rattle.field.specs.declared.Field.{Field}
+use Rattle.field.proofs.Field as S
+use Rattle.field.proofs.Field.Laws as S′
 use Rattle.reader.specs.Read.{nextOf, advanced}
 use Rattle.reader.specs.declared.Reader.{Reader}
 use Rattle.reader.proofs.Reader as T
@@ -135,7 +135,7 @@ module _ {M : Type 1} (𝓤 : URA M) (H : Heap 𝓤) (A : Atoms 𝓤) (W : Given
   again : (n : ℕ) → n < 2 ^ 64 → ent 𝓤 (sem 𝓤 H A (Own h)) (sem 𝓤 H A (Own (moved n)))
   again n ok = qed W (‵ (Own h) ∷ []) ∵ owned ! usize (Is usize) (uint-makes 𝓤 H A W w64) n _ (refl, ok) $ move ! (1 ∷ 0 ∷ []) $ by ! (own-put 𝓤 H A W D L 1 vh n (T′.lowered h))
 
-  -- the call of `image::field_at`: what it is passed, what it asks, and what is known of its result
+  -- the call of `due::field_at`: what it is passed, what it asks, and what is known of its result
   abbrev Passed : Type 0
   Passed = RefT (List ℕ) × (ℕ × Unit {0})
 
@@ -151,24 +151,24 @@ module _ {M : Type 1} (𝓤 : URA M) (H : Heap 𝓤) (A : Atoms 𝓤) (W : Given
   asked : ent 𝓤 (onEntry 𝓤 H A field-at.signature (κ′, tt) (q′, tt) a passed) (FieldAt 𝓤 H A at-mem run .pre to)
   asked = qed W ((‵ (flft κ′ q′) ⊛ ‵ ftrue) ∷ ‵ (owns (Bytes κ′ ∷ usize ∷ []) a passed) ∷ []) ∵ join ! $ frame ! $ done !
 
-  said : (f : Reply) → ent 𝓤 (ensured 𝓤 H A field-at.ended (field-at.clauses 𝓤 H A at-mem run) (κ′, tt) a tt f) (fact 𝓤 (answerOf f ≡ found))
+  said : (f : Field) → ent 𝓤 (ensured 𝓤 H A field-at.ended (field-at.clauses 𝓤 H A at-mem run) (κ′, tt) a tt f) (fact 𝓤 (answerOf f ≡ found))
   said f = exE 𝓤 _ (λ ws. snd∗ 𝓤 (sem 𝓤 H A (lasts field-at.ended (κ′, tt) a ws)) (fact 𝓤 (answerOf f ≡ found)))
 
   -- the call of `next_of`, which has no lifetime
-  abbrev to-next : Reply → Val → NextOf 𝓤 H A at-mem run .Ghost
+  abbrev to-next : Field → Val → NextOf 𝓤 H A at-mem run .Ghost
   to-next f u = ((tt, tt, tt, (f, (h .at, tt)), (u ∷ [], (vint w64 (h .at) ∷ [], tt))), tt)
 
-  asked-next : h .at < 2 ^ 64 → (f : Reply) (u : Val) → ent 𝓤 (sem 𝓤 H A (S.the-row .own f (u ∷ []))) (NextOf 𝓤 H A at-mem run .pre (to-next f u))
+  asked-next : h .at < 2 ^ 64 → (f : Field) (u : Val) → ent 𝓤 (sem 𝓤 H A (S.the-row .own f (u ∷ []))) (NextOf 𝓤 H A at-mem run .pre (to-next f u))
   asked-next fits f u = qed W (‵ (S.the-row .own f (u ∷ [])) ∷ []) ∵ nothing ! $ owned ! usize (Is usize) (uint-makes 𝓤 H A W w64) (h .at) _ (refl, fits) $ fjoin ! $ move ! (1 ∷ 0 ∷ []) $ fjoin ! $ nothing ! $ join ! $ frame ! $ done !
 
-  said-next : (f : Reply) (k : ℕ) → ent 𝓤 (ensured 𝓤 H A next-of.ended (next-of.clauses 𝓤 H A at-mem run) tt (f, (h .at, tt)) tt k) (fact 𝓤 (k ≡ nextOf (answerOf f) (h .at)))
+  said-next : (f : Field) (k : ℕ) → ent 𝓤 (ensured 𝓤 H A next-of.ended (next-of.clauses 𝓤 H A at-mem run) tt (f, (h .at, tt)) tt k) (fact 𝓤 (k ≡ nextOf (answerOf f) (h .at)))
   said-next f k = exE 𝓤 _ (λ ws. snd∗ 𝓤 (sem 𝓤 H A (lasts next-of.ended tt (f, (h .at, tt)) ws)) (fact 𝓤 (k ≡ nextOf (answerOf f) (h .at))))
 
   -- what the two callees say together: the position stored is the one after the field, or the old one
-  stands : (f : Reply) (k : ℕ) → answerOf f ≡ found → k ≡ nextOf (answerOf f) (h .at) → moved k ≡ advanced h
+  stands : (f : Field) (k : ℕ) → answerOf f ≡ found → k ≡ nextOf (answerOf f) (h .at) → moved k ≡ advanced h
   stands f k e e′ = ap moved (e′ ∙ ap (λ (z : Answer). nextOf z (h .at)) e)
 
-  exits : (f : Reply) (u : Val) (k : ℕ) → answerOf f ≡ found → k ≡ nextOf (answerOf f) (h .at) → Is S.the-row f (u ∷ [])
+  exits : (f : Field) (u : Val) (k : ℕ) → answerOf f ≡ found → k ≡ nextOf (answerOf f) (h .at) → Is S.the-row f (u ∷ [])
       → ent 𝓤 (⋆ 𝓤 H A (‵ (fobs γ (B κ′ .coded .code (moved k))) ∷ ‵ (fbor κ (Body (mem (B κ′)) b o γ)) ∷ ‵ (flft κ q) ∷ (‵ (flft κ′ q′) ⊛ ‵ ftrue) ∷ [])) (Post u)
   exits f u k e e′ is =
       -- [obs; the borrow; its token; 'a's token]
@@ -177,7 +177,7 @@ module _ {M : Type 1} (𝓤 : URA M) (H : Heap 𝓤) (A : Atoms 𝓤) (W : Given
       move ! (2 ∷ 3 ∷ []) $ join ! $ frame ! $ feqI ! (List Val) (vptr b o ∷ []) (vptr b o ∷ []) refl $ fjoin3 ! $ nothing ! $ move ! (1 ∷ 0 ∷ []) $ fjoin ! $ frame ! $
       owned ! S.the-row (Is S.the-row) (EL.makes S.the-type S′.the-plain 𝓤 H A) f _ is $ done !
 
-  module _ (C : Calls 𝓤 H) (Λ : Loops 𝓤 H) (fm : FmC 𝓤 H (W .laws) C) (known : Triple 𝓤 (C #image·field-at) (FieldAt 𝓤 H A at-mem run)) (known-next : Triple 𝓤 (C #reader·next-of) (NextOf 𝓤 H A at-mem run)) where
+  module _ (C : Calls 𝓤 H) (Λ : Loops 𝓤 H) (fm : FmC 𝓤 H (W .laws) C) (known : Triple 𝓤 (C #due·field-at) (FieldAt 𝓤 H A at-mem run)) (known-next : Triple 𝓤 (C #reader·next-of) (NextOf 𝓤 H A at-mem run)) where
     walk : ent 𝓤 (onEntry 𝓤 H A pull.signature (κ, (κ′, tt)) (q, (q′, tt)) x at) (WpFn 𝓤 H C Λ code.function (vptr b o ∷ []) Post)
     walk =
         qed W ((‵ (flft κ q) ⊛ ‵ (flft κ′ q′) ⊛ ‵ ftrue) ∷ ‵ (owns (MutRef (named 0) κ (B κ′) ∷ []) x at) ∷ []) ∵ enter ! C Λ code.function (vptr b o ∷ []) _ $
@@ -201,7 +201,7 @@ module _ {M : Type 1} (𝓤 : URA M) (H : Heap 𝓤) (A : Atoms 𝓤) (W : Given
         move ! (6 ∷ 0 ∷ []) $ use2 W (raw (FieldAt 𝓤 H A at-mem run .pre to)) asked $
         -- [what the callee asks; what the reader owns; the cell; the open borrow; obs; auth; true; _5; …; _4; …; _3; …; _2; …; _1; …; room for _0; …]; _3 = field_at(_5, _2)
         calls-at ! fm (FieldAt 𝓤 H A at-mem run) known to (and-then ! (load ! (from ! (stop !)) (look ! 7 refl)) (and-then ! (load ! (from ! (stop !)) (look ! 13 refl)) (no-more !))) (λ u.
-        use1 W (later (some (λ (f : Reply). ((‵ (flft κ′ q′) ⊛ ‵ ftrue) ⊛ ‵ (S.the-row .own f (u ∷ []))) ⊛ raw (ensured 𝓤 H A field-at.ended (field-at.clauses 𝓤 H A at-mem run) (κ′, tt) a tt f)))) (id⊢ 𝓤 _) $ await ! tt $ pick ! (λ f.
+        use1 W (later (some (λ (f : Field). ((‵ (flft κ′ q′) ⊛ ‵ ftrue) ⊛ ‵ (S.the-row .own f (u ∷ []))) ⊛ raw (ensured 𝓤 H A field-at.ended (field-at.clauses 𝓤 H A at-mem run) (κ′, tt) a tt f)))) (id⊢ 𝓤 _) $ await ! tt $ pick ! (λ f.
         split ! $ move ! (1 ∷ []) $ use1 W (raw (fact 𝓤 (answerOf f ≡ found))) (said f) $ heard ! (answerOf f ≡ found) (λ e. split ! $ move ! (1 ∷ []) $
         -- [the reply; 'a's token; what the reader owns; the cell; the open borrow; obs; auth; true; _5; …; _4; …; _3; …; _2; …; _1; …; room for _0; …]
         peeks ! S.the-row (Is S.the-row) (shows 𝓤 H A S.the-row) f (u ∷ []) (λ is.
@@ -227,14 +227,14 @@ module _ {M : Type 1} (𝓤 : URA M) (H : Heap 𝓤) (A : Atoms 𝓤) (W : Given
         keep ! (0 ∷ 1 ∷ 2 ∷ 3 ∷ []) $ by ! (exits f u k e e′ is))))))))))))))))))
 
 module _ {M : Type 1} (𝓤 : URA M) (H : Heap 𝓤) (A : Atoms 𝓤) (W : Given 𝓤 H A) (mem : Memory → SProp 𝓤) (run : Routine → Fun 𝓤) where
-  pull-walks : (C : Calls 𝓤 H) (Λ : Loops 𝓤 H) → FmC 𝓤 H (W .laws) C → Triple 𝓤 (C #image·field-at) (FieldAt 𝓤 H A mem run) → Triple 𝓤 (C #reader·next-of) (NextOf 𝓤 H A mem run)
+  pull-walks : (C : Calls 𝓤 H) (Λ : Loops 𝓤 H) → FmC 𝓤 H (W .laws) C → Triple 𝓤 (C #due·field-at) (FieldAt 𝓤 H A mem run) → Triple 𝓤 (C #reader·next-of) (NextOf 𝓤 H A mem run)
       → Walks 𝓤 H A pull.ended stayed (WpFn 𝓤 H C Λ code.function) (pull.clauses 𝓤 H A mem run)
   pull-walks C Λ fm known known-next =
       walked 𝓤 H A pull.ended stayed (pull.clauses 𝓤 H A mem run) (WpFn 𝓤 H C Λ code.function) (λ κs. (ptr-vals, tt)) (λ κs. (mut-tells (named 0) (κs .0) (B (κs .1 .0)), tt))
       (λ κs qs bounds a _ are. via 𝓤 _ (fst∗ 𝓤 _ (emp 𝓤)) (walk 𝓤 H A W mem run (κs .0) (κs .1 .0) (qs .0) (qs .1 .0) bounds (a .0 .ptr .0) (a .0 .ptr .1) (a .0 .name) (a .0 .now) C Λ fm known known-next))
 
 pull-meets : {M : Type 1} (𝓤 : URA M) (H : Heap 𝓤) (A : Atoms 𝓤) (W : Given 𝓤 H A) (mem : Memory → SProp 𝓤) (run : Routine → Fun 𝓤) (𝓣 : Tables 𝓤 H)
-    → Triple 𝓤 (𝓣 .C #image·field-at) (FieldAt 𝓤 H A mem run) → Triple 𝓤 (𝓣 .C #reader·next-of) (NextOf 𝓤 H A mem run)
+    → Triple 𝓤 (𝓣 .C #due·field-at) (FieldAt 𝓤 H A mem run) → Triple 𝓤 (𝓣 .C #reader·next-of) (NextOf 𝓤 H A mem run)
     → Meets 𝓤 H A pull.signature (WpFn 𝓤 H (𝓣 .C) (𝓣 .Λ) code.function) (pull.spec 𝓤 H A mem run)
 pull-meets 𝓤 H A W mem run 𝓣 known known-next =
     walk-meets 𝓤 H A pull.ended stayed W (goes-ref 𝓤 H A W 2 0 tt behind, tt) (pull.clauses 𝓤 H A mem run) (WpFn 𝓤 H (𝓣 .C) (𝓣 .Λ) code.function) (WpFn-mono 𝓤 H (W .laws) 𝓣 code.function)
@@ -246,5 +246,5 @@ pull-spec 𝓤 H 𝓜 𝓖 𝓡 =
     entered 𝓤 H (tripleOf 𝓤 H (𝓖 .A) pull.signature (pull.spec 𝓤 H (𝓖 .A) (𝓜 .mem) (𝓡 .run)))
     (tables 𝓤 H 𝓜 𝓡 code.env .C) (tables 𝓤 H 𝓜 𝓡 code.env .Λ) #reader·pull code.function (code.unfolded 𝓤 H 𝓜 𝓡)
     (pull-meets 𝓤 H (𝓖 .A) (givenOf 𝓤 H 𝓜 𝓖) (𝓜 .mem) (𝓡 .run) (tablesOf 𝓤 H 𝓜 (tables 𝓤 H 𝓜 𝓡 code.env))
-    (cited 𝓤 H (FieldAt 𝓤 H (𝓖 .A) (𝓜 .mem) (𝓡 .run)) 𝓜 𝓡 code.env #image·field-at field-def.routine code.calls-image·field-at (field-thm.met 𝓤 H 𝓜 𝓖 𝓡))
+    (cited 𝓤 H (FieldAt 𝓤 H (𝓖 .A) (𝓜 .mem) (𝓡 .run)) 𝓜 𝓡 code.env #due·field-at field-def.routine code.calls-due·field-at (field-thm.met 𝓤 H 𝓜 𝓖 𝓡))
     (cited 𝓤 H (NextOf 𝓤 H (𝓖 .A) (𝓜 .mem) (𝓡 .run)) 𝓜 𝓡 code.env #reader·next-of next-def.routine code.calls-reader·next-of (next-thm.met 𝓤 H 𝓜 𝓖 𝓡)))

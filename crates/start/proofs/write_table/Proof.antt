@@ -25,7 +25,7 @@ abbrev μ-loop2 : tie.MeasureT-loop2
 μ-loop2 t₀ r xs n i₀ t i = length xs - i
 
 -- the next record is within the slice
-eight-fits : (c : tie.After-offset Inv-loop μ-loop Inv-loop2 μ-loop2) → c .offset .result + 12 ≤ length (c .before .before .loop .t)
+eight-fits : (c : tie.After-offset Inv-loop μ-loop Inv-loop2 μ-loop2) → c .offset .result + recordSize 8 ≤ length (c .before .before .loop .t)
 eight-fits c =
     let k = c .before .before .loop in
     let s = c .before .before .before .before .before in
@@ -68,8 +68,8 @@ loop-again c =
     let n = i .loop-test .taken in (
       omega arith,
       c .before .t .given .1 ∙ k .inv .1,
-      ahead-on (a .r) (a .xs .now) 8 (k .t) _ (k .i) (o .offset .result) (omega arith) (o .offset .ensures .0) (w .write-ahead .ensures) (omega arith) (k .inv .2),
-      ahead-behind (a .r) (a .xs .now) 8 (k .t) _ (k .i) (o .offset .result) (omega arith) (o .offset .ensures .0) (w .write-ahead .ensures) _ (k .inv .2) (eight-fit (a .r) (a .xs .now) (k .i) n) ∙ k .inv .3,
+      ahead-on (a .r) (a .xs .now) (k .t) _ (k .i) (o .offset .result) (omega arith) (o .offset .ensures .0) (k .inv .2) (w .write-ahead .ensures .0 (a .r) (omega arith)),
+      ahead-behind (a .r) (a .xs .now) (k .t) (w .write-ahead .last .0) (k .i) (o .offset .result) (omega arith) (o .offset .ensures .0) (k .inv .2) (recordSize 8) _ (w .write-ahead .ensures .1) (eight-fit (a .r) (a .xs .now) (k .i) n) ∙ k .inv .3,
     )
 
 loop2-holds : tie.Need-loop2-holds Inv-loop μ-loop Inv-loop2 μ-loop2
@@ -92,7 +92,7 @@ loop2-again c =
     let k = i .before .loop2 in
     let l = i .before .before .before .loop in
     let a = i .before .before .before .before .before .before .args in
-    (search needs, c .before .t2 .given .1 ∙ k .inv .1, begun-on (a .r) (a .xs .now) (k .t) (l .t) _ (k .i) (o .offset2 .result) (i .loop2-test .taken) (o .offset2 .ensures .0) (w .write-round .ensures) (k .inv .2))
+    (search needs, c .before .t2 .given .1 ∙ k .inv .1, begun-on (a .r) (a .xs .now) (k .t) _ (k .i) (o .offset2 .result) (i .loop2-test .taken) (o .offset2 .ensures .0) (l .t) (w .write-round .ensures) (k .inv .2))
 
 same-length : tie.Need-same-length Inv-loop μ-loop Inv-loop2 μ-loop2
 same-length c = c .before .loop2 .inv .1 ∙ c .before .before .before .loop .inv .1 ∙ simp length-set

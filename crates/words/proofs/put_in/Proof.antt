@@ -15,9 +15,11 @@ returns : tie.Need-returns
 returns c =
     let wrote = c .before .before in
     let moved = wrote .before .before .before .before in
-    let a = moved .before .before .before .args in
+    let sized = moved .before in
+    let a = sized .before .before .before .args in
     let w = recordSize (a .r) in
-    wrote .write-member .ensures ∙ ap (λ (x : List ℕ). recordOf (view (a .r) (a .m)) ++ x) (ap (λ (x : List ℕ). drop w x) (moved .open-gap .ensures) ∙ drop-at (take w (a .tail .now)) _ w (simp length-take (omega arith)))
+    let opened = rw (sized .width .ensures) at (moved .open-gap .ensures) in
+    wrote .write-member .ensures ∙ ap (λ (x : List ℕ). recordOf (view (a .r) (a .m)) ++ x) (ap (λ (x : List ℕ). drop w x) opened ∙ drop-at (take w (a .tail .now)) _ w (simp length-take (omega arith)))
 
 pub put-in-spec : {M : Type 1} → statement M
 put-in-spec = tie.close (tie.spec (λ c. search needs) (λ c κs. search needs) (λ c κs. search needs) (λ c. search needs) returns)

@@ -1,11 +1,12 @@
 -- `write_member` meets its contract. The loop's invariant: after the four words, the first i entries are copied. Assumes nothing.
-use Prim.Native.Nat.{_-_, _≤_}
+use Prim.Native.Nat.{_+_, _-_, _≤_}
 use mathlib.Core.Path.{_≡_, refl, _∙_}
 use native.Mathlib.Numerals.{add-one}
 use native.Mathlib.Omega.{arith}
 use lib.ListN.{length, set, length-set}
 use lib.Seq.{paste, paste-zero, paste-suc}
-use Rattle.words.proofs.Records.{record-written}
+use Rattle.model.specs.Table.{recordSize}
+use Rattle.words.proofs.Records.{entries-written}
 use borrow.Author.Needs.{needs}
 use Rattle.words.proofs.write_member.Statement.{statement}
 use Rattle.words.proofs.write_member.Tie as tie
@@ -49,7 +50,8 @@ returns c =
     let a = c .before .before .before .args in
     let m = a .m in
     let z : k .i ≡ a .r = omega arith in
-    (rw z at (k .inv .2)) ∙ record-written (m .id) (m .predecessor) (m .pending) (m .candidate) (a .part .now) (m .successors) (a .r) (omega arith)
+    let w : 4 + a .r ≡ recordSize (a .r) = omega arith in
+    (rw z at (k .inv .2)) ∙ entries-written (m .id) (m .predecessor) (m .pending) (m .candidate) (a .part .now) (m .successors) (a .r) (omega arith) ∙ rw w
 
 pub write-member-spec : {M : Type 1} → statement M
 write-member-spec =

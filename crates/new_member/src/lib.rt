@@ -1,0 +1,48 @@
+// One record of a new table. For `start`; a caller of the library uses none of this.
+ghost use mathlib.Core.Path.{_≡_};
+ghost use mathlib.Core.Bool.{true};
+ghost use mathlib.Core.List.{[], _∷_};
+ghost use Prim.Native.Nat.{ℕ, _+_, _≤_, _<_};
+ghost use lib.ListN.{length, getD, drop};
+ghost use Rattle.model.specs.Lists.{rising, overlay};
+ghost use Rattle.model.specs.Table.{recordSize, recordOf};
+ghost use Rattle.model.specs.Ring.{nextDown};
+ghost use Rattle.model.specs.New.{newMember};
+
+// What stands before the list in the record of the identifier at place i: itself, the next down, and no candidate.
+fn write_front(part: &mut [u32], xs: &[u32], i: usize)
+    requires { ⌜ (rising (now xs) ≡ true) × (i < length (now xs)) × (recordSize 0 ≤ length (now part)) ⌝ }
+    ensures { λ _. ⌜ now (part .exit) ≡ overlay (getD (now (xs .entry)) i 0 ∷ nextDown (now (xs .entry)) (getD (now (xs .entry)) i 0) ∷ 0 ∷ 0 ∷ []) (now (part .entry)) ⌝ }
+{
+    let below = rising::place_below(xs, i);
+    part[0] = xs[i];
+    part[1] = xs[below];
+    part[2] = 0;
+    part[3] = 0;
+}
+
+// The record of the identifier at place i with the next r up, round the end.
+pub fn write_round(part: &mut [u32], xs: &[u32], i: usize, r: usize)
+    requires { ⌜ (rising (now xs) ≡ true) × (i < length (now xs)) × (recordSize r ≤ length (now part)) ⌝ }
+    ensures { λ _. ⌜ now (part .exit) ≡ overlay (recordOf (newMember r (now (xs .entry)) (getD (now (xs .entry)) i 0))) (now (part .entry)) ⌝ }
+{
+    write_front(part, xs, i);
+    let mut k: usize = 0;
+    let mut j = i;
+    while k < r {
+        j = rising::place_above(xs, j);
+        part[words::LIST + k] = xs[j];
+        k += 1;
+    }
+}
+
+// The record of the identifier at place i for each r at once: the next eight up are written, where none goes round the end. The words after a
+// record with eight stay.
+pub fn write_ahead(part: &mut [u32], xs: &[u32], i: usize)
+    requires { ⌜ (rising (now xs) ≡ true) × (i + 8 < length (now xs)) × (recordSize 8 ≤ length (now part)) ⌝ }
+    ensures { λ _. ⌜ ((r : ℕ) → r ≤ 8 → now (part .exit) ≡ overlay (recordOf (newMember r (now (xs .entry)) (getD (now (xs .entry)) i 0))) (now (part .exit))) × (drop (recordSize 8) (now (part .exit)) ≡ drop (recordSize 8) (now (part .entry))) ⌝ }
+{
+    write_front(part, xs, i);
+    let above = i + 1;
+    entries::write_eight(&mut part[words::LIST..], &xs[above..]);
+}

@@ -1,4 +1,0 @@
--- What the proofs of this crate share.
-pub mod Loan
-pub mod Others
-pub mod Pulls

@@ -1,0 +1,14 @@
+-- `place_below` meets its contract. Assumes nothing.
+use Rattle.rising.proofs.Rising.{below-inside, below-round}
+use borrow.Author.Needs.{needs}
+use Rattle.rising.proofs.place_below.Statement.{statement}
+use Rattle.rising.proofs.place_below.Tie as tie
+
+returns : tie.Need-returns
+returns c = let s = c .before in (search needs, below-round (s .args .xs .now) (s .pre .0) (s .args .i) (s .pre .1) (c .if1 .taken))
+
+returns-2 : tie.Need-returns-2
+returns-2 c = let s = c .before in (search needs, below-inside (s .args .xs .now) (s .pre .0) (s .args .i) (s .pre .1) (c .if1 .left))
+
+pub place-below-spec : {M : Type 1} → statement M
+place-below-spec = tie.close (tie.spec (λ c. search needs) returns returns-2)
