@@ -4,9 +4,9 @@ ghost use mathlib.Core.Path.{_≡_};
 ghost use mathlib.Core.List.{map};
 ghost use Rattle.model.specs.Run.{callAnswer, callWords, run};
 ghost use Rattle.theory.specs.Claim.{Holds};
-ghost use Rattle.reply.specs.Answers.{answerOf};
+ghost use Rattle.answer.specs.Packed.{Says};
 ghost use Rattle.calls.specs.Calls.{callOf, Begins};
-use reply::Reply;
+use answer::Answer;
 
 // A call of a member: withdrawal is Leave, loss is Fail, find is Lookup.
 pub enum Call {
@@ -19,18 +19,18 @@ pub enum Call {
     Audit,
 }
 
-// The call on the table: its answer, and the table afterwards.
-pub fn apply(t: &mut [u32], c: Call) -> Reply
-    ensures { λ a. ⌜ (answerOf a ≡ callAnswer (now (t .entry)) (callOf c)) × (now (t .exit) ≡ callWords (now (t .entry)) (callOf c)) ⌝ }
+// The call on the table: its answer in numbers, and the table afterwards.
+pub fn apply(t: &mut [u32], c: Call) -> Answer
+    ensures { λ a. ⌜ Says a (callAnswer (now (t .entry)) (callOf c)) × (now (t .exit) ≡ callWords (now (t .entry)) (callOf c)) ⌝ }
 {
     match c {
-        Call::Join(j, p) => join::join(t, j, p),
-        Call::Leave(n) => depart::leave(t, n),
-        Call::Fail(n) => depart::fail(t, n),
-        Call::Stabilize(n) => stabilize::stabilize(t, n),
-        Call::Rectify(n, q) => rectify::rectify(t, n, q),
-        Call::Lookup(n, k) => lookup::lookup(t, n, k),
-        Call::Audit => audit::audit(t),
+        Call::Join(j, p) => count::numbers(join::join(t, j, p)),
+        Call::Leave(n) => count::numbers(depart::leave(t, n)),
+        Call::Fail(n) => count::numbers(depart::fail(t, n)),
+        Call::Stabilize(n) => step::numbers(stabilize::stabilize(t, n)),
+        Call::Rectify(n, q) => notice::numbers(rectify::rectify(t, n, q)),
+        Call::Lookup(n, k) => owner::numbers(lookup::lookup(t, n, k)),
+        Call::Audit => report::numbers(audit::audit(t)),
     }
 }
 

@@ -1,13 +1,12 @@
 -- A table's words copied, a member's record removed, and the causes of a withdrawal taken apart. Assumes nothing.
-use Prim.Native.Nat.{ℕ, suc}
+use Prim.Native.Nat.{ℕ, suc, _+_, _*_}
 use mathlib.Core.Path.{_≡_, refl, sym, ap, _∙_}
 use mathlib.Core.Bool.{Bool, true, false, not}
 use mathlib.Core.List.{List, [], _∷_, _++_}
 use native.Mathlib.Omega.{arith}
-use borrow.Author.Tests.{not-false}
 use lib.ListN.{length, getD, take, drop, take-append-drop}
 use Rattle.model.specs.Identifier.{space}
-use Rattle.model.specs.Table.{Table, headerSize, size, tableOf, membersIn, wellFormed}
+use Rattle.model.specs.Table.{Table, headerSize, recordSize, size, tableOf, membersIn, wellFormed}
 use Rattle.model.specs.Ring.{live}
 use Rattle.model.specs.Answer.{Cause, _when_, firstOf}
 use Rattle.model.specs.Steps.{without}
@@ -17,7 +16,6 @@ use Rattle.laws.specs.Lists.{live-in}
 use Rattle.laws.specs.Words.{members-length, words-read, words-written, writtenFreed-table}
 use Rattle.laws.specs.Tables.{wellFormed-facts, facts-wellFormed, holds-formed, formed-lists, writtenFreed-formed}
 use Rattle.laws.specs.Removed.{removed-length, removed-formed, removed-size}
-use Rattle.laws.specs.Accepted.{none-applies}
 use Rattle.words.proofs.Records.{most-words}
 use Rattle.table.specs.Formed.{Formed}
 use Rattle.table.proofs.Formed.{formed}
@@ -32,7 +30,10 @@ module _ (ws a : List ℕ) (f : Formed ws) (e : take (size (tableOf ws)) a ≡ t
       let w = wellFormed-facts ws (f .right) in
       sym (ap tableOf (take-append-drop n a)) ∙ ap (λ (l : List ℕ). tableOf (l ++ drop n a)) (e ∙ sym (words-written ws (w .header) (w .fits))) ∙ words-read (tableOf ws) (drop n a) (formed-lists space (tableOf ws) (w .table))
 
-  pub copied-formed : length a ≡ 3075 → Formed a
+  pub copied-count : getD a 1 0 ≡ getD ws 1 0
+  copied-count = sym (members-length (getD a 0 0) (getD a 1 0) (drop headerSize a)) ∙ (ap (λ (T : Table). length (T .members)) copied-table ∙ members-length (getD ws 0 0) (getD ws 1 0) (drop headerSize ws))
+
+  pub copied-formed : length a ≡ headerSize + 256 * recordSize 8 → Formed a
   copied-formed h =
       let m = most-words (getD ws 1 0) (getD ws 0 0) (f .few) (f .r-high) in
       formed a (facts-wellFormed a (holds-formed (tableOf ws) a copied-table (wellFormed-facts ws (f .right) .table) (omega (arith, size-words ws))))
@@ -61,10 +62,6 @@ first-causes false false cs h = absurd (h refl)
 pub member-refused : (ws : List ℕ) (n : ℕ) → (memberRefusal ws n ≡ 0 → ⊥) → memberRefusal ws n ≡ leaveRefusal ws n
 unfolding memberRefusal leaveRefusal
 member-refused ws n h = first-causes (not (wellFormed ws)) (not (live (membersIn ws) n)) ((6 when cutsOff (without n (tableOf ws))) ∷ (7 when tooFewPrincipals (without n (tableOf ws))) ∷ []) h
-
-pub leave-formed : (ws : List ℕ) (n : ℕ) → leaveRefusal ws n ≡ 0 → Formed ws
-unfolding leaveRefusal
-leave-formed ws n h = formed ws (not-false _ (none-applies 0 (not (wellFormed ws)) _ h .0))
 
 -- the causes that are left are judged on a slice that holds the table as it would be afterwards
 pub left-causes : (ws a : List ℕ) (n : ℕ) → Formed ws → live (membersIn ws) n ≡ true → tableOf a ≡ without n (tableOf ws) → leaveRefusal ws n ≡ firstOf ((6 when cutsOff (tableOf a)) ∷ (7 when tooFewPrincipals (tableOf a)) ∷ [])

@@ -1,23 +1,23 @@
 // Loss and withdrawal: a member's record goes.
 ghost use mathlib.Core.Path.{_≡_};
-ghost use mathlib.Core.Bool.{true};
 ghost use mathlib.Core.List.{[], _∷_};
-ghost use lib.ListN.{length, take};
-ghost use Rattle.model.specs.Table.{size, tableOf, membersIn};
-ghost use Rattle.model.specs.Ring.{live};
+ghost use Prim.Native.Nat.{_+_, _*_, _<_};
+ghost use lib.ListN.{length, getD, take};
+ghost use Rattle.model.specs.Table.{headerSize, recordSize, size, tableOf, membersIn, ids};
 ghost use Rattle.model.specs.Steps.{without};
 ghost use Rattle.model.specs.Answer.{accepted, firstOf, _when_};
 ghost use Rattle.model.specs.Refusals.{cutsOff, tooFewPrincipals, leaveRefusal};
 ghost use Rattle.model.specs.Calls.{writtenFreed, failAnswer, failWords, leaveAnswer, leaveWords};
 ghost use Rattle.table.specs.Formed.{Formed};
-ghost use Rattle.reply.specs.Answers.{answerOf};
-use reply::Reply;
+ghost use Rattle.count.specs.Answers.{answerOf};
+use count::Count;
+use refusal::Standing;
 
 // The words of the table, copied: a withdrawal is tried on them first.
-fn copy_table(a: &mut [u32; 3075], t: &[u32])
+fn copy_table(a: &mut [u32; words::LONGEST], t: &[u32])
     requires { ⌜ Formed (now t) ⌝ }
-    requires { ⌜ length (now a) ≡ 3075 ⌝ }
-    ensures { λ _. ⌜ (take (size (tableOf (now (t .entry)))) (now (a .exit)) ≡ take (size (tableOf (now (t .entry)))) (now (t .entry))) × (length (now (a .exit)) ≡ 3075) ⌝ }
+    requires { ⌜ length (now a) ≡ headerSize + 256 * recordSize 8 ⌝ }
+    ensures { λ _. ⌜ (take (size (tableOf (now (t .entry)))) (now (a .exit)) ≡ take (size (tableOf (now (t .entry)))) (now (t .entry))) × (length (now (a .exit)) ≡ headerSize + 256 * recordSize 8) ⌝ }
 {
     let r = t[0] as usize;
     let n = t[1] as usize;
@@ -46,59 +46,59 @@ fn causes(t: &[u32]) -> u32
     6
 }
 
-// Why the member n cannot leave, judged on the table as it would be afterwards: 6 or 7, or 0.
-fn judged(t: &[u32], n: u32) -> u32
+// Why the member at place k cannot leave, judged on the table as it would be afterwards: 6 or 7, or 0.
+fn judged(t: &[u32], k: usize) -> u32
     requires { ⌜ Formed (now t) ⌝ }
-    requires { ⌜ live (membersIn (now t)) n ≡ true ⌝ }
-    ensures { λ k. ⌜ k ≡ leaveRefusal (now (t .entry)) n ⌝ }
+    requires { ⌜ k < getD (now t) 1 0 ⌝ }
+    ensures { λ c. ⌜ c ≡ leaveRefusal (now (t .entry)) (getD (ids (membersIn (now (t .entry)))) k 0) ⌝ }
 {
-    let mut a = [0u32; 3075];
+    let mut a = [0u32; words::LONGEST];
     copy_table(&mut a, t);
-    table::remove(&mut a, n);
+    records::remove_at(&mut a, k);
     let s: &[u32] = &a;
     causes(s)
 }
 
-// Why n cannot leave: 1, 3, 6 or 7, or 0.
-fn leave_refusal(t: &[u32], n: u32) -> u32
-    ensures { λ k. ⌜ k ≡ leaveRefusal (now (t .entry)) n ⌝ }
-{
-    let k = refusal::member_refusal(t, n);
-    if k != 0 {
-        return k;
-    }
-    judged(t, n)
-}
-
-// The record of the member n goes: the member count afterwards.
-fn gone(t: &mut [u32], n: u32) -> Reply
+// The record at place k goes: the member count afterwards.
+fn gone(t: &mut [u32], k: usize) -> Count
     requires { ⌜ Formed (now t) ⌝ }
-    requires { ⌜ live (membersIn (now t)) n ≡ true ⌝ }
-    ensures { λ a. ⌜ (answerOf a ≡ accepted (length (without n (tableOf (now (t .entry))) .members) ∷ [])) × (now (t .exit) ≡ writtenFreed (without n (tableOf (now (t .entry)))) (now (t .entry))) ⌝ }
+    requires { ⌜ k < getD (now t) 1 0 ⌝ }
+    ensures { λ a. ⌜ (answerOf a ≡ accepted (length (without (getD (ids (membersIn (now (t .entry)))) k 0) (tableOf (now (t .entry))) .members) ∷ [])) × (now (t .exit) ≡ writtenFreed (without (getD (ids (membersIn (now (t .entry)))) k 0) (tableOf (now (t .entry)))) (now (t .entry))) ⌝ }
 {
     let m = t[1];
-    table::remove(t, n);
-    Reply::Members(m - 1)
+    records::remove_at(t, k);
+    Count::Members(m - 1)
+}
+
+// The member at place k leaves, if it may.
+fn leave_at(t: &mut [u32], k: usize) -> Count
+    requires { ⌜ Formed (now t) ⌝ }
+    requires { ⌜ k < getD (now t) 1 0 ⌝ }
+    ensures { λ a. ⌜ (answerOf a ≡ leaveAnswer (now (t .entry)) (getD (ids (membersIn (now (t .entry)))) k 0)) × (now (t .exit) ≡ leaveWords (now (t .entry)) (getD (ids (membersIn (now (t .entry)))) k 0)) ⌝ }
+{
+    let c = judged(t, k);
+    if c != 0 {
+        return Count::Declined(c);
+    }
+    gone(t, k)
 }
 
 // Loss of n: the member count afterwards, or 1 or 3 with the table unchanged.
-pub fn fail(t: &mut [u32], n: u32) -> Reply
+pub fn fail(t: &mut [u32], n: u32) -> Count
     ensures { λ a. ⌜ (answerOf a ≡ failAnswer (now (t .entry)) n) × (now (t .exit) ≡ failWords (now (t .entry)) n) ⌝ }
 {
-    let k = refusal::member_refusal(t, n);
-    if k != 0 {
-        return Reply::Declined(k);
+    match refusal::standing_of(t, n) {
+        Standing::At(k) => gone(t, k),
+        Standing::Declined(c) => Count::Declined(c),
     }
-    gone(t, n)
 }
 
 // Withdrawal of n: the member count afterwards, or 1, 3, 6 or 7 with the table unchanged.
-pub fn leave(t: &mut [u32], n: u32) -> Reply
+pub fn leave(t: &mut [u32], n: u32) -> Count
     ensures { λ a. ⌜ (answerOf a ≡ leaveAnswer (now (t .entry)) n) × (now (t .exit) ≡ leaveWords (now (t .entry)) n) ⌝ }
 {
-    let k = leave_refusal(t, n);
-    if k != 0 {
-        return Reply::Declined(k);
+    match refusal::standing_of(t, n) {
+        Standing::At(k) => leave_at(t, k),
+        Standing::Declined(c) => Count::Declined(c),
     }
-    gone(t, n)
 }

@@ -1,17 +1,28 @@
 // Join: a shelf becomes a member by another.
 ghost use mathlib.Core.Path.{_≡_};
-ghost use mathlib.Core.Bool.{true};
-ghost use lib.ListN.{getD};
-ghost use Rattle.model.specs.Table.{membersIn};
-ghost use Rattle.model.specs.Ring.{live};
-ghost use Rattle.model.specs.Steps.{joiner as joinerOf};
-ghost use Rattle.model.specs.Refusals.{full, joinRefusal};
-ghost use Rattle.model.specs.Calls.{joinAnswer, joinWords};
+ghost use mathlib.Core.List.{[], _∷_};
+ghost use lib.ListN.{length, getD};
+ghost use Rattle.model.specs.Table.{membersIn, tableOf};
+ghost use Rattle.model.specs.Answer.{accepted};
+ghost use Rattle.model.specs.Steps.{joiner as joinerOf, joined};
+ghost use Rattle.model.specs.Refusals.{full};
+ghost use Rattle.model.specs.Calls.{written, joinAnswer, joinWords};
 ghost use Rattle.member.specs.View.{view};
 ghost use Rattle.table.specs.Formed.{Formed};
-ghost use Rattle.reply.specs.Answers.{answerOf};
+ghost use Rattle.table.specs.Search.{Stands};
+ghost use Rattle.count.specs.Answers.{answerOf};
+ghost use Rattle.join.specs.Entry.{entryOf, Admits};
+use count::Count;
 use member::Member;
-use reply::Reply;
+use table::Search;
+
+// Whether a shelf may join.
+enum Entry {
+    // the place where it is missing, and the place of the member that it joins by
+    May(usize, usize),
+    // the number that declines it
+    Declined(u32),
+}
 
 // Is there no room for one more record?
 fn is_full(t: &[u32]) -> bool
@@ -23,41 +34,40 @@ fn is_full(t: &[u32]) -> bool
     if 256 <= n {
         return true;
     }
-    let end = words::offset(r, n);
-    t.len() - end < r + 4
+    t.len() - words::offset(r, n) < words::width(r)
 }
 
-// Why j cannot join by p, or 0.
-fn refusal(t: &[u32], j: u32, p: u32) -> u32
-    ensures { λ k. ⌜ k ≡ joinRefusal (now (t .entry)) j p ⌝ }
+// May j join by p?
+fn judged(t: &[u32], j: u32, p: u32) -> Entry
+    ensures { λ a. ⌜ a ≡ entryOf (now (t .entry)) j p ⌝ }
 {
     if table::well_formed(t) {
-        if table::is_member(t, j) {
-            return 2;
-        }
-        if table::is_member(t, p) {
-            let m = table::member_of(t, p);
-            let h = m.successors[0];
-            if ident::between(p, j, h) {
-                if is_full(t) {
-                    return 5;
-                }
-                return 0;
+        let Search::Missing(at) = table::find(t, j) else {
+            return Entry::Declined(2);
+        };
+        let Search::Here(k) = table::find(t, p) else {
+            return Entry::Declined(3);
+        };
+        let m = table::member_at(t, k);
+        let h = m.successors[0];
+        if ident::between(p, j, h) {
+            if is_full(t) {
+                return Entry::Declined(5);
             }
-            return 4;
+            return Entry::May(at, k);
         }
-        return 3;
+        return Entry::Declined(4);
     }
-    1
+    Entry::Declined(1)
 }
 
-// The new member, with the list of p.
-fn joiner(t: &[u32], j: u32, p: u32) -> Member
+// The new member j, with the list of p, which stands at place k.
+fn joiner(t: &[u32], k: usize, j: u32, p: u32) -> Member
     requires { ⌜ Formed (now t) ⌝ }
-    requires { ⌜ live (membersIn (now t)) p ≡ true ⌝ }
+    requires { ⌜ Stands (now t) k p ⌝ }
     ensures { λ m. ⌜ view (getD (now (t .entry)) 0 0) m ≡ joinerOf (membersIn (now (t .entry))) j p ⌝ }
 {
-    let m = table::member_of(t, p);
+    let m = table::member_at(t, k);
     let l = m.successors;
     Member {
         id: j,
@@ -68,16 +78,23 @@ fn joiner(t: &[u32], j: u32, p: u32) -> Member
     }
 }
 
+// j, which may join by p, is put in at its place: the member count afterwards.
+fn admitted(t: &mut [u32], at: usize, k: usize, j: u32, p: u32) -> Count
+    requires { ⌜ Admits (now t) at k j p ⌝ }
+    ensures { λ a. ⌜ (answerOf a ≡ accepted (length (joined j p (tableOf (now (t .entry))) .members) ∷ [])) × (now (t .exit) ≡ written (joined j p (tableOf (now (t .entry)))) (now (t .entry))) ⌝ }
+{
+    let m = joiner(t, k, j, p);
+    records::insert_at(t, at, m);
+    let n = t[1];
+    Count::Members(n)
+}
+
 // j joins by p: the member count afterwards, or 1, 2, 3, 4 or 5 with the table unchanged.
-pub fn join(t: &mut [u32], j: u32, p: u32) -> Reply
+pub fn join(t: &mut [u32], j: u32, p: u32) -> Count
     ensures { λ a. ⌜ (answerOf a ≡ joinAnswer (now (t .entry)) j p) × (now (t .exit) ≡ joinWords (now (t .entry)) j p) ⌝ }
 {
-    let k = refusal(t, j, p);
-    if k != 0 {
-        return Reply::Declined(k);
+    match judged(t, j, p) {
+        Entry::May(at, k) => admitted(t, at, k, j, p),
+        Entry::Declined(c) => Count::Declined(c),
     }
-    let m = joiner(t, j, p);
-    table::insert(t, m);
-    let n = t[1];
-    Reply::Members(n)
 }

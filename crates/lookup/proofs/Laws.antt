@@ -10,13 +10,12 @@ use lib.ListN.{getD}
 use Rattle.model.specs.Lists.{if_then_else_, option}
 use Rattle.model.specs.Identifier.{between}
 use Rattle.model.specs.Table.{Member, membersIn, ids}
-use Rattle.model.specs.Ring.{live, nobody, bestSuccessor}
+use Rattle.model.specs.Ring.{nobody, bestSuccessor}
 use Rattle.model.specs.Answer.{Answer, accepted}
 use Rattle.model.specs.Steps.{lookup, lookupFrom}
 use Rattle.table.specs.Formed.{Formed}
-use Rattle.table.proofs.Members.{ids-count}
-use Rattle.ring.specs.Places.{placeOf, firstPlace}
-use Rattle.ring.proofs.Laws.{place-found, member-count, best, no-best}
+use Rattle.ring.specs.Places.{firstPlace}
+use Rattle.ring.proofs.Laws.{member-count, best, no-best}
 
 -- the answer 8 at the member q
 abbrev stuckAt : ℕ → Answer
@@ -39,10 +38,6 @@ module _ (ws : List ℕ) where
 
   pub walk-start : (x k : ℕ) → lookupFrom ms (getD ws 1 0) k x 0 ≡ lookup ms x k
   walk-start x k = rw member-count
-
-  -- a member's place is a place, and the member is there
-  pub place-there : (x j : ℕ) → live ms x ≡ true → j ≡ placeOf (ids ms) x → (j < getD ws 1 0) × (idAt j ≡ x)
-  place-there x j l e = let w = place-found (ids ms) x l in rw e (omega (arith, ids-count ws), w .1)
 
 -- a turn of the walk: it stands at the place `at` of the member q, whose best successor is at the place `next`
 pub record Turn (ws : List ℕ) (at next q left : ℕ) : Type 0 where

@@ -6,11 +6,12 @@ ghost use Rattle.model.specs.Table.{membersIn, ids};
 ghost use Rattle.model.specs.Steps.{lookup as lookupOf};
 ghost use Rattle.model.specs.Calls.{lookupAnswer};
 ghost use Rattle.table.specs.Formed.{Formed};
-ghost use Rattle.reply.specs.Answers.{answerOf};
-use reply::Reply;
+ghost use Rattle.owner.specs.Answers.{answerOf};
+use owner::Owner;
+use refusal::Standing;
 
 // The walk from the member at a place: its owner and where it was found, or the member without a live entry.
-fn walk(t: &[u32], start: usize, k: u32) -> Reply
+fn walk(t: &[u32], start: usize, k: u32) -> Owner
     requires { ⌜ Formed (now t) ⌝ }
     requires { ⌜ start < getD (now t) 1 0 ⌝ }
     ensures { λ a. ⌜ answerOf a ≡ lookupOf (membersIn (now (t .entry))) (getD (ids (membersIn (now (t .entry)))) start 0) k ⌝ }
@@ -23,31 +24,29 @@ fn walk(t: &[u32], start: usize, k: u32) -> Reply
         let q = ring::id_at(t, at);
         let next = ring::best_place(t, at);
         if n <= next {
-            return Reply::Stuck(q);
+            return Owner::Stuck(q);
         }
         let b = ring::id_at(t, next);
         if k == b {
-            return Reply::Owner(b, q, moves);
+            return Owner::Found(b, q, moves);
         }
         if ident::between(q, k, b) {
-            return Reply::Owner(b, q, moves);
+            return Owner::Found(b, q, moves);
         }
         at = next;
         moves += 1;
         left -= 1;
     }
     // Not reached: each move leaves fewer members on the way to the key, so the walk ends within n places (Lookup in `theory`).
-    Reply::Stuck(ring::id_at(t, at))
+    Owner::Stuck(ring::id_at(t, at))
 }
 
 // Find key k from the member n: owner, the member it was found at and the moves; or 1 or 3; or 8 and the member stood at.
-pub fn lookup(t: &[u32], n: u32, k: u32) -> Reply
+pub fn lookup(t: &[u32], n: u32, k: u32) -> Owner
     ensures { λ a. ⌜ answerOf a ≡ lookupAnswer (now (t .entry)) n k ⌝ }
 {
-    let c = refusal::member_refusal(t, n);
-    if c != 0 {
-        return Reply::Declined(c);
+    match refusal::standing_of(t, n) {
+        Standing::At(at) => walk(t, at, k),
+        Standing::Declined(c) => Owner::Declined(c),
     }
-    let at = ring::place(t, 0, n);
-    walk(t, at, k)
 }

@@ -1,23 +1,41 @@
 // Rectify: a member takes a notice.
 ghost use mathlib.Core.Path.{_≡_};
-ghost use Rattle.model.specs.Calls.{rectifyAnswer, rectifyWords};
-ghost use Rattle.reply.specs.Answers.{answerOf};
-use reply::Reply;
+ghost use Prim.Native.Nat.{_<_};
+ghost use lib.ListN.{getD};
+ghost use Rattle.model.specs.Table.{membersIn, tableOf};
+ghost use Rattle.model.specs.Ring.{nobody};
+ghost use Rattle.model.specs.Answer.{accepted};
+ghost use Rattle.model.specs.Steps.{rectifyIn, rectifyReply, replaced, withMembers};
+ghost use Rattle.model.specs.Calls.{written, rectifyAnswer, rectifyWords};
+ghost use Rattle.table.specs.Formed.{Formed};
+ghost use Rattle.notice.specs.Answers.{answerOf};
+use notice::Notice;
+use refusal::Standing;
+
+// The member at place k rectifies with a notice from q.
+fn rectify_at(t: &mut [u32], k: usize, q: u32) -> Notice
+    requires { ⌜ Formed (now t) ⌝ }
+    requires { ⌜ k < getD (now t) 1 0 ⌝ }
+    ensures { λ a. ⌜ (answerOf a ≡ accepted (rectifyReply (membersIn (now (t .entry))) q (getD (membersIn (now (t .entry))) k nobody))) × (now (t .exit) ≡ written (withMembers (replaced (rectifyIn (membersIn (now (t .entry))) q (getD (membersIn (now (t .entry))) k nobody)) (membersIn (now (t .entry)))) (tableOf (now (t .entry)))) (now (t .entry))) ⌝ }
+{
+    let m = table::member_at(t, k);
+    let p = m.predecessor;
+    let at = table::rank(t, p);
+    let alive = table::stands_at(t, at, p);
+    let o = m.rectify(q, alive);
+    records::replace_at(t, k, o);
+    if m.renews(q, alive) {
+        return Notice::New;
+    }
+    Notice::Same
+}
 
 // n rectifies with a notice from q: new or same, or 1 or 3 with the table unchanged.
-pub fn rectify(t: &mut [u32], n: u32, q: u32) -> Reply
+pub fn rectify(t: &mut [u32], n: u32, q: u32) -> Notice
     ensures { λ a. ⌜ (answerOf a ≡ rectifyAnswer (now (t .entry)) n q) × (now (t .exit) ≡ rectifyWords (now (t .entry)) n q) ⌝ }
 {
-    let k = refusal::member_refusal(t, n);
-    if k != 0 {
-        return Reply::Declined(k);
+    match refusal::standing_of(t, n) {
+        Standing::At(k) => rectify_at(t, k, q),
+        Standing::Declined(c) => Notice::Declined(c),
     }
-    let m = table::member_of(t, n);
-    let alive = table::is_member(t, m.predecessor);
-    let o = m.rectify(q, alive);
-    table::replace(t, o);
-    if m.renews(q, alive) {
-        return Reply::New;
-    }
-    Reply::Same
 }

@@ -1,16 +1,25 @@
-// The refusal that the calls of one member share: stabilize, rectify, loss, withdrawal, find.
+// What the calls of one member share: where it stands, or why the call is declined.
 ghost use mathlib.Core.Path.{_≡_};
-ghost use Rattle.model.specs.Refusals.{memberRefusal};
+ghost use Rattle.refusal.specs.Standing.{standingOf};
+use table::Search;
 
-// Why a call of the member n is declined: 1 or 3, or 0 where it is not.
-pub fn member_refusal(t: &[u32], n: u32) -> u32
-    ensures { λ k. ⌜ k ≡ memberRefusal (now (t .entry)) n ⌝ }
+// The member that a call is of.
+pub enum Standing {
+    // its place
+    At(usize),
+    // the number that declines the call
+    Declined(u32),
+}
+
+// Where the member n stands, or 1 or 3.
+pub fn standing_of(t: &[u32], n: u32) -> Standing
+    ensures { λ a. ⌜ a ≡ standingOf (now (t .entry)) n ⌝ }
 {
     if table::well_formed(t) {
-        if table::is_member(t, n) {
-            return 0;
-        }
-        return 3;
+        return match table::find(t, n) {
+            Search::Here(k) => Standing::At(k),
+            Search::Missing(_) => Standing::Declined(3),
+        };
     }
-    1
+    Standing::Declined(1)
 }

@@ -1,42 +1,45 @@
 -- The steps' definitions, one case at a time, over what the code has read: v is the record, o the one looked at. Assumes nothing.
 use Prim.Native.Nat.{ℕ}
-use mathlib.Core.Path.{_≡_}
+use mathlib.Core.Path.{_≡_, sym, ap, _∙_}
 use mathlib.Core.Bool.{true, false}
 use mathlib.Core.List.{List, [], _∷_}
-use Rattle.model.specs.Identifier.{between}
+use Rattle.model.specs.Identifier.{space, between}
 use Rattle.model.specs.Table.{Member}
 use Rattle.model.specs.Ring.{live, named, successor, isPending}
-use Rattle.model.specs.Steps.{adopt, awaitCandidate, clearPending, stabilizeFromSuccessor, stabilizeFromPredecessor, stabilizeReply}
-use Rattle.laws.specs.Stabilize.{offered-better, offered-no-better, reply-look, reply-done}
+use Rattle.model.specs.Steps.{adopt, awaitCandidate, clearPending, stabilizeFromPredecessor, stabilize, stabilizeReply}
+use Rattle.laws.specs.Stabilize.{step-pending, step-live, offered-better, offered-no-better, reply-look, reply-done}
 
 -- h is the successor that was read, and o its record
-module _ (ms : List Member) (v o : Member) (h : ℕ) (eh : h ≡ successor v) (eo : o ≡ named ms h) where
-  pub better : between (v .id) (o .predecessor) h ≡ true → awaitCandidate (o .predecessor) (adopt h (o .successors) v) ≡ stabilizeFromSuccessor ms v
-  better b = rw (eo, eh) (offered-better ms v (rw (eo, eh) at b))
+module _ (ms : List Member) (v o : Member) (h : ℕ) (eh : h ≡ successor v) (eo : o ≡ named ms h) (p : isPending v ≡ false) (l : live ms h ≡ true) where
+  head-live : live ms (successor v) ≡ true
+  head-live = ap (live ms) (sym eh) ∙ l
 
-  pub not-better : between (v .id) (o .predecessor) h ≡ false → adopt h (o .successors) v ≡ stabilizeFromSuccessor ms v
-  not-better b = rw (eo, eh) (offered-no-better ms v (rw (eo, eh) at b))
+  pub better : between (v .id) (o .predecessor) h ≡ true → awaitCandidate (o .predecessor) (adopt h (o .successors) v) ≡ stabilize space ms v
+  better b = rw (eo, eh) (offered-better ms v (rw (eo, eh) at b)) ∙ step-live ms v space p head-live
 
-  module _ (p : isPending v ≡ false) (l : live ms h ≡ true) where
-    pub looks : between (v .id) (o .predecessor) h ≡ true → 1 ∷ o .predecessor ∷ [] ≡ stabilizeReply ms v
-    looks b = rw (eo, eh) (reply-look ms v p (rw eh at l) (rw (eo, eh) at b))
+  pub not-better : between (v .id) (o .predecessor) h ≡ false → adopt h (o .successors) v ≡ stabilize space ms v
+  not-better b = rw (eo, eh) (offered-no-better ms v (rw (eo, eh) at b)) ∙ step-live ms v space p head-live
 
-    pub is-done : between (v .id) (o .predecessor) h ≡ false → 2 ∷ h ∷ [] ≡ stabilizeReply ms v
-    is-done b = rw eh (reply-done ms v p (rw eh at l) (rw (eo, eh) at b))
+  pub looks : between (v .id) (o .predecessor) h ≡ true → 1 ∷ o .predecessor ∷ [] ≡ stabilizeReply ms v
+  looks b = rw (eo, eh) (reply-look ms v p head-live (rw (eo, eh) at b))
 
-module _ (ms : List Member) (v : Member) where
-  pub candidate-live : (o : Member) → o ≡ named ms (v .candidate) → live ms (v .candidate) ≡ true → clearPending (adopt (v .candidate) (o .successors) v) ≡ stabilizeFromPredecessor ms v
+  pub is-done : between (v .id) (o .predecessor) h ≡ false → 2 ∷ h ∷ [] ≡ stabilizeReply ms v
+  is-done b = rw eh (reply-done ms v p head-live (rw (eo, eh) at b))
+
+-- a candidate is looked at
+module _ (ms : List Member) (v : Member) (p : isPending v ≡ true) where
+  pub candidate-live : (o : Member) → o ≡ named ms (v .candidate) → live ms (v .candidate) ≡ true → clearPending (adopt (v .candidate) (o .successors) v) ≡ stabilize space ms v
   unfolding stabilizeFromPredecessor
-  candidate-live o e l = rw (l, ← e)
+  candidate-live o e l = rw (← step-pending ms v space p, l, ← e)
 
-  pub candidate-dead : live ms (v .candidate) ≡ false → clearPending v ≡ stabilizeFromPredecessor ms v
+  pub candidate-dead : live ms (v .candidate) ≡ false → clearPending v ≡ stabilize space ms v
   unfolding stabilizeFromPredecessor
-  candidate-dead l = rw l
+  candidate-dead l = rw (← step-pending ms v space p, l)
 
-  pub done-candidate : isPending v ≡ true → live ms (v .candidate) ≡ true → 2 ∷ v .candidate ∷ [] ≡ stabilizeReply ms v
+  pub done-candidate : live ms (v .candidate) ≡ true → 2 ∷ v .candidate ∷ [] ≡ stabilizeReply ms v
   unfolding stabilizeReply stabilizeFromPredecessor
-  done-candidate p l = rw (p, l)
+  done-candidate l = rw (p, l)
 
-  pub done-successor : isPending v ≡ true → live ms (v .candidate) ≡ false → 2 ∷ successor v ∷ [] ≡ stabilizeReply ms v
+  pub done-successor : live ms (v .candidate) ≡ false → 2 ∷ successor v ∷ [] ≡ stabilizeReply ms v
   unfolding stabilizeReply stabilizeFromPredecessor
-  done-successor p l = rw (p, l)
+  done-successor l = rw (p, l)

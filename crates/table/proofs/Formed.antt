@@ -1,6 +1,6 @@
 -- The test for well-formed tables: what its answer says, and that it may test less than document 01 asks. Assumes nothing.
 use Prim.Native.Nat.{ℕ, zero, suc, _+_, _*_, _-_, _≤_, _<_}
-use mathlib.Core.Path.{_≡_, refl, _∙_}
+use mathlib.Core.Path.{_≡_, refl, sym, subst, _∙_}
 use mathlib.Core.List.{List, [], _∷_}
 use mathlib.Core.Bool.{Bool, true, false, _&&_, and-true, and-false}
 use mathlib.Core.Logic.{_⊎_, inl, inr}
@@ -15,10 +15,10 @@ use Rattle.laws.specs.Lists.{and-true as both, and-pairs}
 use Rattle.laws.specs.Order.{equal?, less?}
 use Rattle.model.specs.Lists.{every, rising, risingFrom}
 use Rattle.model.specs.Identifier.{space}
-use Rattle.model.specs.Table.{headerSize, recordSize, size, tableOf, memberOf, membersOf, membersIn, ids, formedMember, formed as formedTable, wellFormed}
+use Rattle.model.specs.Table.{Member, headerSize, recordSize, size, tableOf, memberOf, recordOf, membersOf, membersIn, ids, formedMember, formed as formedTable, wellFormed}
 use Rattle.table.specs.Formed.{Formed}
 use Rattle.table.specs.Tests.{rightPending, rightFrom}
-use Rattle.laws.specs.Words.{members-length}
+use Rattle.laws.specs.Words.{members-length, record-written}
 use Rattle.laws.specs.Parts.{first-member}
 
 -- The answer as facts
@@ -53,13 +53,15 @@ every-below : (ws : List ℕ) → Bounded ws → every (λ x. ltb x space) ws �
 every-below [] h = refl
 every-below (x ∷ ws) h = rw (lt-ltb x space (h 0)) (every-below ws (λ i. h (suc i)))
 
-member-tests : (r : ℕ) (ws : List ℕ) → recordSize r ≤ length ws → Bounded ws → formedMember space r (memberOf r ws) ≡ rightPending (getD ws 2 0) (getD ws 3 0)
+-- of a member whose record is words, what is pending is left to test
+pub member-right : (r : ℕ) (m : Member) → length (m .successors) ≡ r → Bounded (recordOf m) → formedMember space r m ≡ rightPending (m .pending) (m .candidate)
 unfolding formedMember rightPending
-member-tests r ws l h =
-    let list : List ℕ = take r (drop 4 ws) in
-    let n : length list ≡ r = simp (length-take, length-drop) (omega arith) in
-    let b : every (λ x. ltb x space) list ≡ true = every-below list (bounded-take r (drop 4 ws) (bounded-drop 4 ws h)) in
-    rw (eq-eqb (length list) r n, lt-ltb (getD ws 0 0) space (h 0), lt-ltb (getD ws 1 0) space (h 1), lt-ltb (getD ws 3 0) space (h 3), b, and-true, and-true)
+member-right r m n h =
+    let list : every (λ x. ltb x space) (m .successors) ≡ true = every-below (m .successors) (λ i. h (suc (suc (suc (suc i))))) in
+    rw (eq-eqb (length (m .successors)) r n, lt-ltb (m .id) space (h 0), lt-ltb (m .predecessor) space (h 1), lt-ltb (m .candidate) space (h 3), list, and-true, and-true)
+
+member-tests : (r : ℕ) (ws : List ℕ) → recordSize r ≤ length ws → Bounded ws → formedMember space r (memberOf r ws) ≡ rightPending (getD ws 2 0) (getD ws 3 0)
+member-tests r ws l h = member-right r (memberOf r ws) (simp (length-take, length-drop) (omega arith)) (subst Bounded (sym (record-written r ws l)) (bounded-take (recordSize r) ws h))
 
 module _ (r : ℕ) where
   members-tests : (lo n : ℕ) (ws : List ℕ) → n * recordSize r ≤ length ws → Bounded ws → (risingFrom lo (ids (membersOf r n ws)) && every (formedMember space r) (membersOf r n ws)) ≡ rightFrom (lo + 1) (membersOf r n ws)

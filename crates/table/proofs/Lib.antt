@@ -2,5 +2,4 @@
 pub mod Members
 pub mod Formed
 pub mod Place
-pub mod Edits
 pub mod Tail

@@ -3,14 +3,13 @@ use Prim.Native.Nat.{ℕ, zero, suc, _+_, _*_, _-_, _≤_, _<_}
 use mathlib.Core.Path.{_≡_, refl, sym, ap, _∙_}
 use mathlib.Core.List.{List, [], _∷_, _++_, append-assoc}
 use native.Mathlib.Nat.{mul-le-mul-right, suc-mul, zero-mul, add-mul, sub-zero, suc-sub-suc, le-of-suc-le-suc}
-use native.Mathlib.Numerals.{add-four}
 use native.Mathlib.Omega.{arith}
-use lib.ListN.{length, getD, take, drop, length-drop}
-use lib.Seq.{take-take, drop-cons, drop-drop, getD-drop}
+use lib.ListN.{length, getD, take, drop}
+use lib.Seq.{drop-drop, getD-drop}
 use Rattle.model.specs.Table.{Member, headerSize, recordSize, size, tableOf, memberOf, recordOf, membersOf, membersIn, recordsOf, ids}
 use Rattle.model.specs.Ring.{nobody}
 use Rattle.laws.specs.Lists.{length-ids}
-use Rattle.laws.specs.Parts.{first-member}
+use Rattle.laws.specs.Parts.{member-part}
 use Rattle.laws.specs.Words.{members-length}
 use Rattle.table.specs.Formed.{Formed}
 
@@ -36,28 +35,23 @@ members-drop r zero n ws h = rw (zero-mul (recordSize r), sub-zero)
 members-drop r (suc k) zero ws h = absurd (omega arith)
 members-drop r (suc k) (suc n) ws h = members-drop r k n (drop (recordSize r) ws) (le-of-suc-le-suc h) ∙ rw (drop-drop, ← next-offset k (recordSize r), suc-sub-suc)
 
+-- an identifier is that of the member at its place
+pub id-of : (ms : List Member) (k : ℕ) → getD (ids ms) k 0 ≡ getD ms k nobody .id
+id-of [] k = refl
+id-of (m ∷ ms) zero = refl
+id-of (m ∷ ms) (suc k) = id-of ms k
+
 -- the identifier of index k is the first word of its record
 pub id-word : (r n k : ℕ) (ws : List ℕ) → k < n → getD ws (k * recordSize r) 0 ≡ getD (ids (membersOf r n ws)) k 0
 id-word r zero k ws h = absurd (omega arith)
 id-word r (suc n) zero ws h = rw (zero-mul (recordSize r))
 id-word r (suc n) (suc k) ws h = rw (next-offset k (recordSize r), ← getD-drop (recordSize r) ws (k * recordSize r) 0) (id-word r n k (drop (recordSize r) ws) (omega arith))
 
--- the member of index k is what the part with its record says
-record-part : (r : ℕ) (ws : List ℕ) → recordSize r ≤ length ws → memberOf r (take (recordSize r) ws) ≡ memberOf r ws
-record-part r [] h = absurd (omega arith)
-record-part r (x ∷ []) h = absurd (omega arith)
-record-part r (x ∷ y ∷ []) h = absurd (omega arith)
-record-part r (x ∷ y ∷ z ∷ []) h = absurd (omega arith)
-record-part r (x ∷ y ∷ z ∷ u ∷ ws) h = rw (add-four, take-take r r ws (omega arith))
-
-pub member-part : (r n k : ℕ) (ws : List ℕ) → k < n → n * recordSize r ≤ length ws → memberOf r (take (recordSize r) (drop (k * recordSize r) ws)) ≡ getD (membersOf r n ws) k nobody
-member-part r zero k ws h f = absurd (omega arith)
-member-part r (suc n) zero ws h f =
-    let e : suc n * recordSize r ≡ n * recordSize r + recordSize r = suc-mul n (recordSize r) in
-    rw (zero-mul (recordSize r)) (record-part r ws (omega arith))
-member-part r (suc n) (suc k) ws h f =
-    let e : suc n * recordSize r ≡ n * recordSize r + recordSize r = suc-mul n (recordSize r) in
-    rw (next-offset k (recordSize r), ← drop-drop (k * recordSize r) (recordSize r) ws) (member-part r n k (drop (recordSize r) ws) (omega arith) (simp length-drop (omega arith)))
+-- the member of index k is what its record says
+member-there : (r n k : ℕ) (ws : List ℕ) → k < n → memberOf r (drop (k * recordSize r) ws) ≡ getD (membersOf r n ws) k nobody
+member-there r zero k ws h = absurd (omega arith)
+member-there r (suc n) zero ws h = rw (zero-mul (recordSize r))
+member-there r (suc n) (suc k) ws h = rw (next-offset k (recordSize r), ← drop-drop (k * recordSize r) (recordSize r) ws) (member-there r n k (drop (recordSize r) ws) (omega arith))
 
 -- Records of members
 
@@ -84,13 +78,16 @@ module _ (ws : List ℕ) where
         let s = suc-mul k (recordSize (getD ws 0 0)) in
         omega arith
 
+    whole : memberOf (getD ws 0 0) (drop at ws) ≡ getD (membersIn ws) k nobody
+    whole = let r : ℕ = getD ws 0 0 in rw (e, ← drop-drop (k * recordSize r) headerSize ws) (member-there r (getD ws 1 0) k (drop headerSize ws) h)
+
+    -- the member there, as its part of the table says it
+    pub member-at : (w : ℕ) → w ≡ recordSize (getD ws 0 0) → memberOf (getD ws 0 0) (take (at + w - at) (drop at ws)) ≡ getD (membersIn ws) k nobody
+    member-at w q = member-part (getD ws 0 0) (at + w - at) (drop at ws) (omega arith) ∙ whole
+
     -- its list, as the part of the table after its four other words
     pub list-at : take (at + 4 + getD ws 0 0 - (at + 4)) (drop (at + 4) ws) ≡ getD (membersIn ws) k nobody .successors
     list-at =
         let r : ℕ = getD ws 0 0 in
-        let n : ℕ = getD ws 1 0 in
-        let body : List ℕ = drop headerSize ws in
-        let c = members-length r n body in
         let z : at + 4 + r - (at + 4) ≡ r = omega arith in
-        let m : getD (membersIn ws) k nobody ≡ memberOf r (drop (k * recordSize r) body) = ap (λ (l : List Member). getD l 0 nobody) (sym (drop-cons (membersIn ws) k nobody (omega arith)) ∙ members-drop r k n body (omega arith) ∙ first-member r (n - k) (drop (k * recordSize r) body) (omega arith)) in
-        rw (m, z, drop-drop (k * recordSize r) headerSize ws, ← e, drop-drop 4 at ws)
+        rw (← whole, z, drop-drop 4 at ws)

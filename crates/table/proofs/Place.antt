@@ -15,6 +15,9 @@ use Rattle.model.specs.Ring.{live, named, nobody}
 use Rattle.model.specs.Steps.{inserted, replaced, removed}
 use Rattle.table.specs.Formed.{Formed}
 use Rattle.table.specs.Rank.{rank}
+use Rattle.table.specs.Search.{Stands, searched}
+use Rattle.table.specs.declared.Search.{Search}
+use Rattle.table.specs.declared.Search.the-variants.{Here, Missing}
 use Rattle.laws.specs.Words.{members-length}
 use Rattle.laws.specs.Lists.{and-true as both}
 use Rattle.laws.specs.Order.{less?}
@@ -166,30 +169,13 @@ pub at-within : {x k : ℕ} {ms : List Member} → At x ms k → k < length ms
 at-within (at-first e) = omega arith
 at-within (at-later h a) = let i = at-within a in omega arith
 
--- in a whole table
-pub within-count : (ws : List ℕ) {x k : ℕ} → At x (membersIn ws) k → k < getD ws 1 0
-within-count ws a = omega (arith, at-within a, members-length (getD ws 0 0) (getD ws 1 0) (drop headerSize ws))
+pub at-id : {x k : ℕ} {ms : List Member} → At x ms k → getD (ids ms) k 0 ≡ x
+at-id (at-first e) = e
+at-id (at-later h a) = at-id a
 
-pub found : (ws : List ℕ) (x k : ℕ) → Formed ws → live (membersIn ws) x ≡ true → k ≡ rank (ids (membersIn ws)) x → At x (membersIn ws) k
-found ws x k f l e = rw e (live-at (membersIn ws) x (f .rises) l)
-
-pub missing : (ws : List ℕ) (x k : ℕ) → live (membersIn ws) x ≡ false → k ≡ rank (ids (membersIn ws)) x → Gap x (membersIn ws) k
-missing ws x k l e = rw e (gap-at (membersIn ws) x l)
-
--- the test that x stands at place k
-module _ (ws : List ℕ) (k x : ℕ) where
-  abbrev pub stands : Bool
-  stands = ltb k (getD ws 1 0) && eqb (getD (ids (membersIn ws)) k 0) x
-
-  pub stands-there : stands ≡ true → (k < getD ws 1 0) × (getD (ids (membersIn ws)) k 0 ≡ x)
-  stands-there e = let w = both (ltb k (getD ws 1 0)) (eqb (getD (ids (membersIn ws)) k 0) x) e in (ltb-true k (getD ws 1 0) (w .0), eqb-true (getD (ids (membersIn ws)) k 0) x (w .1))
-
-  pub stands-rank : Formed ws → stands ≡ true → (k ≡ rank (ids (membersIn ws)) x) × (k ≤ getD ws 1 0)
-  stands-rank f e = let w = stands-there e in (rw (← (w .1)) (rank-here (ids (membersIn ws)) k (f .rises) (omega (arith, ids-count ws))), omega arith)
-
-  -- a member stands at its rank
-  pub stands-live : Formed ws → k ≡ rank (ids (membersIn ws)) x → stands ≡ live (membersIn ws) x
-  stands-live f e = sym (contains-rank (ids (membersIn ws)) x (f .rises) ∙ rw (ids-count ws, ← e))
+pub at-live : {x k : ℕ} {ms : List Member} → At x ms k → live ms x ≡ true
+at-live (at-first e) = rw (eq-eqb _ _ e)
+at-live (at-later h a) = rw (below-eqb _ _ h) (at-live a)
 
 pub named-at : {x k : ℕ} {ms : List Member} → At x ms k → named ms x ≡ getD ms k nobody
 named-at (at-first e) = rw (eq-eqb _ _ e)
@@ -207,3 +193,71 @@ pub inserted-at : {k : ℕ} {ms : List Member} (v : Member) → Gap (v .id) ms k
 inserted-at v gap-last = refl
 inserted-at v (gap-first h) = rw (lt-ltb _ _ h)
 inserted-at v (gap-later {m = m} h a) = rw (le-ltb (v .id) (m .id) (omega arith)) (ap (λ (l : List Member). m ∷ l) (inserted-at v a))
+
+-- each of rising identifiers stands at its place
+at-place : (ms : List Member) (k : ℕ) → rising (ids ms) ≡ true → k < length (ids ms) → At (getD (ids ms) k 0) ms k
+at-place [] k e h = absurd (omega arith)
+at-place (m ∷ ms) zero e h = at-first refl
+at-place (m ∷ ms) (suc k) e h = at-later (rising-above (m .id) (ids ms) k e (le-of-suc-le-suc h)) (at-place ms k (rising-tail (m .id) (ids ms) e) (le-of-suc-le-suc h))
+
+-- In a whole table
+
+pub within-count : (ws : List ℕ) {x k : ℕ} → At x (membersIn ws) k → k < getD ws 1 0
+within-count ws a = omega (arith, at-within a, members-length (getD ws 0 0) (getD ws 1 0) (drop headerSize ws))
+
+-- at each place a member stands
+pub own-place : (ws : List ℕ) (k : ℕ) → k < getD ws 1 0 → Stands ws k (getD (ids (membersIn ws)) k 0)
+own-place ws k h = record { within = h; has-id = refl }
+
+-- x stands at place k
+module _ {ws : List ℕ} {k x : ℕ} (f : Formed ws) (s : Stands ws k x) where
+  pub stands-at : At x (membersIn ws) k
+  stands-at = rw (← s .has-id) (at-place (membersIn ws) k (f .rises) (omega (arith, ids-count ws, s .within)))
+
+  pub stands-live : live (membersIn ws) x ≡ true
+  stands-live = at-live stands-at
+
+  pub stands-named : getD (membersIn ws) k nobody ≡ named (membersIn ws) x
+  stands-named = sym (named-at stands-at)
+
+-- the test that x stands at place k
+module _ (ws : List ℕ) (k x : ℕ) where
+  abbrev pub stands : Bool
+  stands = ltb k (getD ws 1 0) && eqb (getD (ids (membersIn ws)) k 0) x
+
+  pub stands-there : stands ≡ true → (k < getD ws 1 0) × (getD (ids (membersIn ws)) k 0 ≡ x)
+  stands-there e = let w = both (ltb k (getD ws 1 0)) (eqb (getD (ids (membersIn ws)) k 0) x) e in (ltb-true k (getD ws 1 0) (w .0), eqb-true (getD (ids (membersIn ws)) k 0) x (w .1))
+
+  pub stands-rank : Formed ws → stands ≡ true → (k ≡ rank (ids (membersIn ws)) x) × (k ≤ getD ws 1 0)
+  stands-rank f e = let w = stands-there e in (rw (← (w .1)) (rank-here (ids (membersIn ws)) k (f .rises) (omega (arith, ids-count ws))), omega arith)
+
+  -- a member stands at its rank
+  pub stands-member : Formed ws → k ≡ rank (ids (membersIn ws)) x → stands ≡ live (membersIn ws) x
+  stands-member f e = sym (contains-rank (ids (membersIn ws)) x (f .rises) ∙ rw (ids-count ws, ← e))
+
+-- a search for x
+abbrev placeOf : Search → ℕ
+placeOf (Here k) = k
+placeOf (Missing k) = k
+
+abbrev isHere : Search → Bool
+isHere (Here k) = true
+isHere (Missing k) = false
+
+said : (b : Bool) (j : ℕ) (s : Search) → s ≡ (if b then Here j else Missing j) → (isHere s ≡ b) × (placeOf s ≡ j)
+said true j s e = rw e (refl, refl)
+said false j s e = rw e (refl, refl)
+
+module _ (ws : List ℕ) (x k : ℕ) where
+  -- x is no member and k its rank, or x is a member and k its rank, where it stands
+  pub missing : Missing k ≡ searched ws x → (live (membersIn ws) x ≡ false) × (k ≡ rank (ids (membersIn ws)) x)
+  missing e = let w = said (live (membersIn ws) x) (rank (ids (membersIn ws)) x) (Missing k) e in (sym (w .0), w .1)
+
+  pub present : Here k ≡ searched ws x → (live (membersIn ws) x ≡ true) × (k ≡ rank (ids (membersIn ws)) x)
+  present e = let w = said (live (membersIn ws) x) (rank (ids (membersIn ws)) x) (Here k) e in (sym (w .0), w .1)
+
+  pub rank-stands : Formed ws → live (membersIn ws) x ≡ true → k ≡ rank (ids (membersIn ws)) x → Stands ws k x
+  rank-stands f l e = let a : At x (membersIn ws) k = rw e (live-at (membersIn ws) x (f .rises) l) in record { within = within-count ws a; has-id = at-id a }
+
+  pub here : Formed ws → Here k ≡ searched ws x → Stands ws k x
+  here f e = let w = present e in rank-stands f (w .0) (w .1)

@@ -1,19 +1,26 @@
-// Members of a table in a slice: the test for well-formed tables, finding a member, and putting records in, in place and out.
+// Members of a table in a slice: the test for well-formed tables, and finding a member.
 // For the crates above; behind `well_formed`, each function asks for a well-formed table.
 ghost use mathlib.Core.Path.{_≡_};
 ghost use mathlib.Core.Bool.{true, false, _&&_};
 ghost use Prim.Native.Nat.{_+_, _*_, _≤_, _<_};
 ghost use lib.Dec.{leb, ltb, eqb};
 ghost use lib.ListN.{length, getD};
-ghost use Rattle.model.specs.Table.{recordSize, size, membersOf, membersIn, tableOf, ids, wellFormed};
-ghost use Rattle.model.specs.Ring.{live, named, nobody};
-ghost use Rattle.model.specs.Steps.{inserted, replaced, without, withMembers};
-ghost use Rattle.model.specs.Calls.{written, writtenFreed};
+ghost use Rattle.model.specs.Table.{recordSize, membersOf, membersIn, ids, wellFormed};
+ghost use Rattle.model.specs.Ring.{nobody};
 ghost use Rattle.member.specs.View.{view};
 ghost use Rattle.table.specs.Formed.{Formed};
 ghost use Rattle.table.specs.Rank.{rank as rankOf};
+ghost use Rattle.table.specs.Search.{searched};
 ghost use Rattle.table.specs.Tests.{rightPending, rightFrom};
 use member::Member;
+
+// What a search for an identifier finds.
+pub enum Search {
+    // the place where it stands
+    Here(usize),
+    // the place where it would stand
+    Missing(usize),
+}
 
 // Is the record that the part holds right, with an identifier of at least lo?
 fn record_ok(s: &[u32], lo: usize) -> bool
@@ -37,7 +44,7 @@ fn records_ok(s: &[u32], r: usize, n: usize) -> bool
     requires { ⌜ (r ≤ 8) × (n * recordSize r ≤ length (now s)) ⌝ }
     ensures { λ b. ⌜ b ≡ rightFrom 0 (membersOf r n (now (s .entry))) ⌝ }
 {
-    let w = r + 4;
+    let w = words::width(r);
     let mut p = s;
     let mut left = n;
     let mut lo: usize = 0;
@@ -57,7 +64,7 @@ fn records_ok(s: &[u32], r: usize, n: usize) -> bool
 pub fn well_formed(t: &[u32]) -> bool
     ensures { λ b. ⌜ b ≡ wellFormed (now (t .entry)) ⌝ }
 {
-    if t.len() < 3 {
+    if t.len() < words::HEADER {
         return false;
     }
     let r = t[0] as usize;
@@ -71,10 +78,10 @@ pub fn well_formed(t: &[u32]) -> bool
     if 256 < n {
         return false;
     }
-    if t.len() < 3 + n * (r + 4) {
+    if t.len() < words::offset(r, n) {
         return false;
     }
-    records_ok(&t[3..], r, n)
+    records_ok(words::records_of(t), r, n)
 }
 
 // How many members stand below the identifier x, by halves.
@@ -123,16 +130,19 @@ pub fn rank_from(t: &[u32], guess: usize, x: u32) -> usize
     rank(t, x)
 }
 
-// Is x a member?
-pub fn is_member(t: &[u32], x: u32) -> bool
+// Where does x stand among the members, or where is it missing?
+pub fn find(t: &[u32], x: u32) -> Search
     requires { ⌜ Formed (now t) ⌝ }
-    ensures { λ b. ⌜ b ≡ live (membersIn (now (t .entry))) x ⌝ }
+    ensures { λ a. ⌜ a ≡ searched (now (t .entry)) x ⌝ }
 {
     let k = rank(t, x);
-    stands_at(t, k, x)
+    if stands_at(t, k, x) {
+        return Search::Here(k);
+    }
+    Search::Missing(k)
 }
 
-// The member of index k.
+// The member at place k.
 pub fn member_at(t: &[u32], k: usize) -> Member
     requires { ⌜ Formed (now t) ⌝ }
     requires { ⌜ k < getD (now t) 1 0 ⌝ }
@@ -140,59 +150,6 @@ pub fn member_at(t: &[u32], k: usize) -> Member
 {
     let r = t[0] as usize;
     let at = words::offset(r, k);
-    let end = at + (r + 4);
+    let end = at + words::width(r);
     words::read_member(&t[at..end], r)
-}
-
-// The member x.
-pub fn member_of(t: &[u32], x: u32) -> Member
-    requires { ⌜ Formed (now t) ⌝ }
-    requires { ⌜ live (membersIn (now t)) x ≡ true ⌝ }
-    ensures { λ m. ⌜ view (getD (now (t .entry)) 0 0) m ≡ named (membersIn (now (t .entry))) x ⌝ }
-{
-    let k = rank(t, x);
-    member_at(t, k)
-}
-
-// The record of m among the others, in its place; the records above move up through the lent tail.
-pub fn insert(t: &mut [u32], m: Member)
-    requires { ⌜ Formed (now t) ⌝ }
-    requires { ⌜ (getD (now t) 1 0 < 256) × (size (tableOf (now t)) + recordSize (getD (now t) 0 0) ≤ length (now t)) ⌝ }
-    requires { ⌜ live (membersIn (now t)) (m .id) ≡ false ⌝ }
-    ensures { λ _. ⌜ now (t .exit) ≡ written (withMembers (inserted (view (getD (now (t .entry)) 0 0) m) (membersIn (now (t .entry)))) (tableOf (now (t .entry)))) (now (t .entry)) ⌝ }
-{
-    let r = t[0] as usize;
-    let n = t[1] as usize;
-    let k = rank(t, m.id);
-    let at = words::offset(r, k);
-    let end = words::offset(r, n);
-    words::put_in(&mut t[at..], end - at, m, r);
-    t[1] = (n + 1) as u32;
-}
-
-// The record of m in the place of the member that has its identifier.
-pub fn replace(t: &mut [u32], m: Member)
-    requires { ⌜ Formed (now t) ⌝ }
-    requires { ⌜ live (membersIn (now t)) (m .id) ≡ true ⌝ }
-    ensures { λ _. ⌜ now (t .exit) ≡ written (withMembers (replaced (view (getD (now (t .entry)) 0 0) m) (membersIn (now (t .entry)))) (tableOf (now (t .entry)))) (now (t .entry)) ⌝ }
-{
-    let r = t[0] as usize;
-    let k = rank(t, m.id);
-    let at = words::offset(r, k);
-    words::write_member(&mut t[at..], m, r);
-}
-
-// The record of the member x goes; those above move down, and the words freed become 0.
-pub fn remove(t: &mut [u32], x: u32)
-    requires { ⌜ Formed (now t) ⌝ }
-    requires { ⌜ live (membersIn (now t)) x ≡ true ⌝ }
-    ensures { λ _. ⌜ now (t .exit) ≡ writtenFreed (without x (tableOf (now (t .entry)))) (now (t .entry)) ⌝ }
-{
-    let r = t[0] as usize;
-    let n = t[1] as usize;
-    let k = rank(t, x);
-    let at = words::offset(r, k);
-    let end = words::offset(r, n);
-    words::close_gap(&mut t[at..], end - at, r + 4);
-    t[1] = (n - 1) as u32;
 }

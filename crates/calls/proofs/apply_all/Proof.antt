@@ -41,6 +41,7 @@ use denote.Lend.{Held, lends-slice, slice-back}
 use denote.Index.{row, place, place-is, whole-in, whole-out, elem-out, elem-back, opens-slice, closes-slice, looks-slice, shuts-slice}
 use denote.Steps.{owned, peeks, heard, nothing}
 use denote.Enum.Laws as EL
+use denote.Struct.Laws as LL
 use denote.Triple.Statement.{Contract, Triple}
 use denote.Triple.Call.{calls-at}
 use denote.Triple.Entry.{Vals, onEntry}
@@ -52,10 +53,10 @@ use denote.Exit.{yes}
 use denote.Signature.{plain}
 use Rattle.model.specs.Run.{callAnswer, callWords}
 use Rattle.table.proofs.Tail.{tail}
-use Rattle.reply.specs.declared.Reply.{Reply}
-use Rattle.reply.specs.Answers.{answerOf}
-use Rattle.reply.proofs.Reply as Q
-use Rattle.reply.proofs.Reply.Laws as Q′
+use Rattle.answer.specs.declared.Answer.{Answer}
+use Rattle.answer.specs.Packed.{Says}
+use Rattle.answer.proofs.Answer as Q
+use Rattle.answer.proofs.Answer.Laws as Q′
 use Rattle.calls.specs.declared.Call.{Call}
 use Rattle.calls.specs.declared.Call.the-variants.{Audit}
 use Rattle.calls.specs.Calls.{callOf}
@@ -186,8 +187,8 @@ module _ {M : Type 1} (𝓤 : URA M) (H : Heap 𝓤) (A : Atoms 𝓤) (W : Given
     asked = qed W (‵ (flft (ν ∷ []) fullShare) ∷ ‵ lent ∷ []) ∵ nothing ! $ move ! (1 ∷ 0 ∷ []) $ join ! $ join ! $ frame ! $ done !
 
     -- what it says of its answer and of the list that it leaves
-    abbrev Said : Reply → List ℕ → Type 0
-    Said f l′ = (answerOf f ≡ callAnswer l (callOf c)) × (l′ ≡ callWords l (callOf c))
+    abbrev Said : Answer → List ℕ → Type 0
+    Said f l′ = Says f (callAnswer l (callOf c)) × (l′ ≡ callWords l (callOf c))
 
   module _ (𝓣 : Tables 𝓤 H) (known : Triple 𝓤 (𝓣 .C #calls·apply) (Apply 𝓤 H A mem run)) (l₀ l₁ l₂ l₃ l₄ l₅ l₆ l₇ l₈ l₉ l₁₀ l₁₁ : ℕ) where
     abbrev C : Calls 𝓤 H
@@ -246,12 +247,12 @@ module _ {M : Type 1} (𝓤 : URA M) (H : Heap 𝓤) (A : Atoms 𝓤) (W : Given
         use2 W (raw (Apply 𝓤 H A mem run .pre (to ν δ us c))) (asked ν δ us c) $
         -- [what `apply` asks; the lender's part; t's open borrow; cs; cs's token; _11; …]
         calls-at ! (fmOf 𝓤 H (W .laws) 𝓣) (Apply 𝓤 H A mem run) known (to ν δ us c) (and-then ! (load ! (from ! (stop !)) (look ! 5 refl)) (and-then ! (load ! (from ! (stop !)) (look ! 19 refl)) (no-more !))) (λ u.
-        use1 W (later (some (λ (f : Reply). ((‵ (flft (ν ∷ []) fullShare) ⊛ ‵ ftrue) ⊛ ‵ (Q.the-row .own f (u ∷ []))) ⊛ raw (ensured 𝓤 H A apply.ended (apply.clauses 𝓤 H A mem run) (ν ∷ [], tt) (args ν δ us c) tt f)))) (id⊢ 𝓤 _) $ await ! tt $ pick ! (λ f.
+        use1 W (later (some (λ (f : Answer). ((‵ (flft (ν ∷ []) fullShare) ⊛ ‵ ftrue) ⊛ ‵ (Q.the-row .own f (u ∷ []))) ⊛ raw (ensured 𝓤 H A apply.ended (apply.clauses 𝓤 H A mem run) (ν ∷ [], tt) (args ν δ us c) tt f)))) (id⊢ 𝓤 _) $ await ! tt $ pick ! (λ f.
         split ! $ move ! (1 ∷ []) $ use1 W (some (λ (ls : List ℕ × (Unit {0} × Unit {0})). ‵ (lasts apply.ended (ν ∷ [], tt) (args ν δ us c) ls) ⊛ raw (fact 𝓤 (Said ν δ us c f (ls .0))))) (id⊢ 𝓤 _) $ pick ! (λ ls.
         split ! $ move ! (1 ∷ []) $ heard ! (Said ν δ us c f (ls .0)) (λ e. fsplit ! $ fsplit ! $ move ! (1 ∷ []) $ feqL ! (λ same.
-        -- [t's last list; c's part; ν's token and the reply; the lender's part; t's open borrow; cs; cs's token; _11; …]
+        -- [t's last list; c's part; ν's token and the answer; the lender's part; t's open borrow; cs; cs's token; _11; …]
         move ! (2 ∷ []) $ split ! $ move ! (1 ∷ []) $ peeks ! Q.the-row (Is Q.the-row) (shows 𝓤 H A Q.the-row) f (u ∷ []) (λ isf.
-        land ! (from ! (stop !)) (init ! 12 refl (EL.lawful Q.the-type Q′.the-laws 𝓤 H A W tt .typed f _ isf .0)) $ drop ! $ split ! $
+        land ! (from ! (stop !)) (init ! 12 refl (LL.lawful Q.the-type Q′.the-laws 𝓤 H A W .typed f _ isf .0)) $ drop ! $ split ! $
         -- [ν's token; true; t's last list; c's part; the lender's part; t's open borrow; cs; cs's token; _11; …]: ν ends, and the words are back
         lft-end ! tt $ move ! (0 ∷ 4 ∷ 2 ∷ []) $ use3 W (later (‵ (Arr (in-memory u32) (length us) .lies (ls .0) b o))) (slice-back 𝓤 H A W u32 (ν ∷ []) δ (ls .0) (length us) b o) $ await ! tt $ fsplit ! $ drop ! $
         -- [t's words; true; c's part; its open borrow; cs; cs's token; _11; …]

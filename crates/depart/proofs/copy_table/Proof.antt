@@ -1,17 +1,17 @@
 -- `copy_table` meets its contract. The loop's invariant: the first i words are copied. Assumes nothing.
-use Prim.Native.Nat.{_-_, _≤_}
+use Prim.Native.Nat.{_+_, _*_, _-_, _≤_}
 use mathlib.Core.Path.{_≡_, refl}
 use native.Mathlib.Omega.{arith}
 use borrow.Author.Needs.{needs}
 use lib.ListN.{length, take, length-set}
-use Rattle.model.specs.Table.{size, tableOf}
+use Rattle.model.specs.Table.{headerSize, recordSize, size, tableOf}
 use Rattle.words.proofs.Records.{copied-more}
 use Rattle.table.proofs.Members.{size-words}
 use Rattle.depart.proofs.copy_table.Statement.{statement}
 use Rattle.depart.proofs.copy_table.Tie as tie
 
 abbrev Inv-loop : tie.InvT-loop
-Inv-loop a₀ t r n end i₀ a i = (i ≤ end) × (length a ≡ 3075) × (take i a ≡ take i t)
+Inv-loop a₀ t r n end i₀ a i = (i ≤ end) × (length a ≡ headerSize + 256 * recordSize 8) × (take i a ≡ take i t)
 
 abbrev μ-loop : tie.MeasureT-loop
 μ-loop a₀ t r n end i₀ a i = end - i

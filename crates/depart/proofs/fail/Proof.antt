@@ -1,36 +1,43 @@
--- `fail` meets its contract: declined it writes nothing, accepted the record of n goes. Assumes nothing.
-use mathlib.Core.Path.{_≡_, sym, _∙_}
+-- `fail` meets its contract: declined it writes nothing, else the record at the place where n stands goes. Assumes nothing.
+use Prim.Native.Nat.{ℕ}
+use mathlib.Core.Path.{sym, ap, _∙_}
+use mathlib.Core.List.{[], _∷_}
 use borrow.Author.Needs.{needs}
-use Rattle.model.specs.Refusals.{memberRefusal}
-use Rattle.model.specs.Calls.{failAnswer, failWords}
-use Rattle.laws.specs.Accepted.{declined-answer, unchanged, member-accepted}
-use Rattle.refusal.proofs.Laws.{refused-formed}
+use lib.ListN.{length}
+use Rattle.model.specs.Table.{tableOf}
+use Rattle.model.specs.Answer.{accepted}
+use Rattle.model.specs.Steps.{without}
+use Rattle.model.specs.Calls.{writtenFreed, failAnswer, failWords}
+use Rattle.refusal.proofs.Laws.{Called, called, refused, refused-call}
 use Rattle.depart.proofs.fail.Statement.{statement}
 use Rattle.depart.proofs.fail.Tie as tie
 
--- behind the test no cause declines the loss
-granted : (c : tie.Else1) → let a = c .before .before .before .before .args in memberRefusal (a .t .now) (a .n) ≡ 0
-granted c = sym (c .before .member-refusal .ensures) ∙ c .if1 .left
+abbrev start : tie.After-standing-of → tie.Start
+start s = s .before .before .before
+
+granted : (c : tie.After-k) → let a = start (c .before .before) .args in Called (a .t .now) (a .n) (c .k .given .0 .0)
+granted c = let s = c .before .before in let a = start s .args in called (a .t .now) (a .n) (c .k .given .0 .0) (sym (c .k .given .1) ∙ s .standing-of .ensures)
 
 gone-requires : tie.Need-gone-requires
-gone-requires c κs =
-    let e = c .before in
-    let a = e .before .before .before .before .args in
-    (refused-formed (a .t .now) (a .n) (granted e), member-accepted (a .t .now) (a .n) (granted e))
+gone-requires c κs = let g = granted (c .before .before) in (g .table, g .stands .within)
 
 returns : tie.Need-returns
 unfolding failAnswer failWords
 returns c =
-    let a = c .before .before .before .before .args in
-    let n : memberRefusal (a .t .now) (a .n) ≡ 0 → ⊥ = λ e. c .if1 .taken (c .before .member-refusal .ensures ∙ e) in
-    (rw (c .before .member-refusal .ensures) (declined-answer _ _ n), unchanged _ _ _ n)
+    let r = c .before .before in
+    let k = r .before .before .before in
+    let g = granted k in
+    let T = tableOf (start (k .before .before) .args .t .now) in
+    (rw (g .granted) (r .gone .ensures .0 ∙ ap (λ (x : ℕ). accepted (length (without x T .members) ∷ [])) (g .stands .has-id)), rw (g .granted) (r .gone .ensures .1 ∙ ap (λ (x : ℕ). writtenFreed (without x T) (start (k .before .before) .args .t .now)) (g .stands .has-id)))
 
 returns-2 : tie.Need-returns-2
 unfolding failAnswer failWords
 returns-2 c =
-    let g = c .before .before in
-    let e = granted (g .before .before) in
-    (rw e (g .gone .ensures .0), rw e (g .gone .ensures .1))
+    let k = c .before in
+    let s = k .before .before in
+    let a = start s .args in
+    refused-call (refused (a .t .now) (a .n) (k .c .given .0 .0) (sym (k .c .given .1) ∙ s .standing-of .ensures)) _ _
 
 pub fail-spec : {M : Type 1} → statement M
-fail-spec = tie.close (tie.spec (λ c κs. search needs) (λ c. search needs) returns gone-requires (λ c. search needs) returns-2)
+fail-spec =
+    tie.close (tie.spec (λ c κs. search needs) (λ c. search needs) gone-requires (λ c. search needs) (λ c. search needs) returns (λ c. search needs) returns-2)

@@ -1,18 +1,28 @@
--- `judged` meets its contract: the copy holds the same table, then the table without n, and the causes that are left are those of the copy.
+-- `judged` meets its contract: the copy holds the same table, then the table without the member at k, and the causes that are left are those of the copy.
 -- Assumes nothing.
-use mathlib.Core.Path.{_≡_, sym, ap, _∙_}
+use Prim.Native.Nat.{ℕ, _<_}
+use mathlib.Core.Path.{_≡_, sym, ap, subst, _∙_}
 use mathlib.Core.Bool.{true}
 use borrow.Author.Needs.{needs}
-use Rattle.model.specs.Table.{Table, tableOf, membersIn}
+use lib.ListN.{getD}
+use Rattle.model.specs.Table.{Table, tableOf, membersIn, ids}
 use Rattle.model.specs.Ring.{live}
 use Rattle.model.specs.Steps.{without}
 use Rattle.table.specs.Formed.{Formed}
-use Rattle.depart.proofs.Laws.{copied-table, copied-formed, removed-facts, left-causes}
+use Rattle.table.proofs.Place.{own-place, stands-live}
+use Rattle.depart.proofs.Laws.{copied-table, copied-formed, copied-count, removed-facts, left-causes}
 use Rattle.depart.proofs.judged.Statement.{statement}
 use Rattle.depart.proofs.judged.Tie as tie
 
 abbrev start : tie.After-copy-table → tie.Start
 start c = c .before .before .before
+
+-- the member that would leave
+abbrev goer : tie.Start → ℕ
+goer s = getD (ids (membersIn (s .args .t .now))) (s .args .k) 0
+
+present : (s : tie.Start) → live (membersIn (s .args .t .now)) (goer s) ≡ true
+present s = stands-live (s .pre .0) (own-place (s .args .t .now) (s .args .k) (s .pre .1))
 
 -- the copy before the removal
 same : (c : tie.After-copy-table) → tableOf (c .copy-table .last .0) ≡ tableOf (start c .args .t .now)
@@ -21,19 +31,21 @@ same c = let s = start c in copied-table (s .args .t .now) (c .copy-table .last 
 well : (c : tie.After-copy-table) → Formed (c .copy-table .last .0)
 well c = let s = start c in copied-formed (s .args .t .now) (c .copy-table .last .0) (s .pre .0) (c .copy-table .ensures .0) (c .copy-table .ensures .1)
 
-alive : (c : tie.After-copy-table) → live (membersIn (c .copy-table .last .0)) (start c .args .n) ≡ true
-alive c = let s = start c in ap (λ (T : Table). live (T .members) (s .args .n)) (same c) ∙ s .pre .1
+within : (c : tie.After-copy-table) → start c .args .k < getD (c .copy-table .last .0) 1 0
+within c = let s = start c in subst (λ (n : ℕ). s .args .k < n) (sym (copied-count (s .args .t .now) (c .copy-table .last .0) (s .pre .0) (c .copy-table .ensures .0))) (s .pre .1)
 
 -- and after it
-gone : (c : tie.After-remove) → let b = c .before .before in Formed (c .remove .last .0) × (tableOf (c .remove .last .0) ≡ without (start b .args .n) (tableOf (start b .args .t .now)))
+gone : (c : tie.After-remove-at) → let s = start (c .before .before) in Formed (c .remove-at .last .0) × (tableOf (c .remove-at .last .0) ≡ without (goer s) (tableOf (s .args .t .now)))
 gone c =
     let b = c .before .before in
-    let n = start b .args .n in
-    let k = removed-facts (b .copy-table .last .0) n (well b) (alive b) in
-    rw (c .remove .ensures) (k .0, k .1 ∙ ap (without n) (same b))
+    let s = start b in
+    let a = b .copy-table .last .0 in
+    let x = getD (ids (membersIn a)) (s .args .k) 0 in
+    let k = removed-facts a x (well b) (stands-live (well b) (own-place a (s .args .k) (within b))) in
+    rw (c .remove-at .ensures) (k .0, k .1 ∙ ap (λ (T : Table). without (getD (ids (T .members)) (s .args .k) 0) T) (same b))
 
-remove-requires : tie.Need-remove-requires
-remove-requires c κs = (well (c .before), alive (c .before))
+remove-at-requires : tie.Need-remove-at-requires
+remove-at-requires c κs = (well (c .before), within (c .before))
 
 causes-requires : tie.Need-causes-requires
 causes-requires c κs = gone (c .before .before) .0
@@ -42,7 +54,7 @@ returns : tie.Need-returns
 returns c =
     let r = c .before .before .before in
     let s = start (r .before .before) in
-    c .causes .ensures ∙ sym (left-causes (s .args .t .now) (r .remove .last .0) (s .args .n) (s .pre .0) (s .pre .1) (gone r .1))
+    c .causes .ensures ∙ sym (left-causes (s .args .t .now) (r .remove-at .last .0) (goer s) (s .pre .0) (present s) (gone r .1))
 
 pub judged-spec : {M : Type 1} → statement M
-judged-spec = tie.close (tie.spec (λ c κs. search needs) (λ c. search needs) remove-requires (λ c. search needs) causes-requires returns)
+judged-spec = tie.close (tie.spec (λ c κs. search needs) (λ c. search needs) remove-at-requires (λ c. search needs) causes-requires returns)

@@ -17,10 +17,11 @@ returns c =
 returns-2 : tie.Need-returns-2
 unfolding full
 returns-2 c =
-    let e = c .before in
+    let o = c .before in
+    let e = o .before in
     let ws = e .before .before .before .before .args .t .now in
-    rw (members-length (getD ws 0 0) (getD ws 1 0) (drop headerSize ws), lt-leb _ _ (e .if1 .left), c .offset .ensures .0)
+    rw (members-length (getD ws 0 0) (getD ws 1 0) (drop headerSize ws), lt-leb _ _ (e .if1 .left), o .offset .ensures .0, c .width .ensures)
 
 pub is-full-spec : {M : Type 1} → statement M
 is-full-spec =
-    tie.close (tie.spec (λ c. search needs) (λ c. search needs) (λ c. search needs) (λ c. search needs) returns (λ c κs. search needs) (λ c. search needs) (λ c. search needs) returns-2)
+    tie.close (tie.spec (λ c. search needs) (λ c. search needs) (λ c. search needs) (λ c. search needs) returns (λ c κs. search needs) (λ c. search needs) (λ c κs. search needs) returns-2)

@@ -1,36 +1,65 @@
 -- `from_predecessor` meets its contract. Assumes nothing.
+use Prim.Native.Nat.{ℕ}
 use mathlib.Core.Path.{_≡_, sym, ap, _∙_}
 use mathlib.Core.Bool.{true}
+use mathlib.Core.List.{[], _∷_}
+use borrow.Author.Tests.{eq-eqb}
 use borrow.Author.Needs.{needs}
 use lib.ListN.{getD}
+use lib.Seq.{getD-take}
 use Rattle.model.specs.Table.{membersIn}
-use Rattle.model.specs.Ring.{live}
+use Rattle.model.specs.Ring.{isPending}
+use Rattle.model.specs.Answer.{accepted}
 use Rattle.model.specs.Steps.{clearPending}
 use Rattle.member.specs.View.{view}
-use Rattle.stabilize.proofs.Laws.{candidate-live, candidate-dead}
+use Rattle.table.specs.Search.{Stands}
+use Rattle.table.proofs.Place.{missing, here, stands-live, stands-named}
+use Rattle.stabilize.proofs.Laws.{candidate-live, candidate-dead, done-candidate, done-successor}
 use Rattle.stabilize.proofs.from_predecessor.Statement.{statement}
 use Rattle.stabilize.proofs.from_predecessor.Tie as tie
 
-alive : (c : tie.Then1) → let a = c .before .before .before .args in live (membersIn (a .t .now)) (a .m .candidate) ≡ true
-alive c = sym (c .before .is-member .ensures) ∙ c .if1 .taken
+waiting : (s : tie.Start) → isPending (view (getD (s .args .t .now) 0 0) (s .args .t2)) ≡ true
+waiting s = eq-eqb _ _ (s .pre .1)
 
-member-of-requires : tie.Need-member-of-requires
-member-of-requires c κs = (search needs, alive c)
+stands : (k : tie.After-k) → let a = k .before .before .before .before .args in Stands (a .t .now) (k .k .given .0 .0) (a .t2 .candidate)
+stands k =
+    let f = k .before .before in
+    let s = f .before .before in
+    here (s .args .t .now) (s .args .t2 .candidate) _ (s .pre .0) (sym (k .k .given .1) ∙ f .find .ensures)
 
 returns : tie.Need-returns
 returns c =
-    let o = c .before .before .before in
-    let s = o .before .before .before .before in
-    let r = getD (s .args .t .now) 0 0 in
-    c .clear-pending .ensures r ∙ ap clearPending (c .before .adopt .ensures r (s .pre .r-low) (s .pre .r-high)) ∙ candidate-live (membersIn (s .args .t .now)) (view r (s .args .m)) (view r (o .member-of .result)) (o .member-of .ensures) (alive (o .before))
+    let e = c .before .before in
+    let f = e .before .before in
+    let s = f .before .before in
+    let ws = s .args .t .now in
+    let m = s .args .t2 in
+    let r = getD ws 0 0 in
+    let dead = missing ws (m .candidate) _ (sym (e .enum-told .given .1) ∙ f .find .ensures) .0 in
+    let head = sym (getD-take r (m .successors) 0 0 (s .pre .0 .r-low)) in
+    record {
+      leaves = c .clear-pending .ensures r ∙ candidate-dead (membersIn ws) (view r m) (waiting s) dead;
+      replies = ap accepted (ap (λ (x : ℕ). 2 ∷ x ∷ []) head ∙ done-successor (membersIn ws) (view r m) (waiting s) dead);
+    }
+
+member-at-requires : tie.Need-member-at-requires
+member-at-requires c κs = (search needs, stands (c .before) .within)
 
 returns-2 : tie.Need-returns-2
 returns-2 c =
-    let e = c .before in
-    let s = e .before .before .before in
-    let r = getD (s .args .t .now) 0 0 in
-    c .clear-pending2 .ensures r ∙ candidate-dead (membersIn (s .args .t .now)) (view r (s .args .m)) (sym (e .before .is-member .ensures) ∙ e .if1 .left)
+    let a = c .before in
+    let o = a .before .before in
+    let k = o .before .before in
+    let s = k .before .before .before .before in
+    let ws = s .args .t .now in
+    let m = s .args .t2 in
+    let r = getD ws 0 0 in
+    let live = stands-live (s .pre .0) (stands k) in
+    record {
+      leaves = c .clear-pending2 .ensures r ∙ ap clearPending (a .adopt .ensures r (s .pre .0 .r-low) (s .pre .0 .r-high)) ∙ candidate-live (membersIn ws) (view r m) (waiting s) (view r (o .member-at .result)) (o .member-at .ensures ∙ stands-named (s .pre .0) (stands k)) live;
+      replies = ap accepted (done-candidate (membersIn ws) (view r m) (waiting s) live);
+    }
 
 pub from-predecessor-spec : {M : Type 1} → statement M
 from-predecessor-spec =
-    tie.close (tie.spec (λ c κs. search needs) member-of-requires (λ c κs. search needs) (λ c κs. search needs) returns (λ c κs. search needs) returns-2)
+    tie.close (tie.spec (λ c κs. search needs) (λ c. search needs) (λ c. search needs) (λ c. search needs) (λ c κs. search needs) returns member-at-requires (λ c κs. search needs) (λ c κs. search needs) returns-2)

@@ -20,21 +20,28 @@ Inv-loop s r n w p₀ left₀ lo₀ p left lo = (left * recordSize r ≤ length 
 abbrev μ-loop : tie.MeasureT-loop
 μ-loop s r n w p₀ left₀ lo₀ p left lo = left
 
+abbrev start : tie.At-loop Inv-loop μ-loop → tie.Start Inv-loop μ-loop
+start l = l .before .before .before
+
+abbrev width : tie.At-loop Inv-loop μ-loop → ℕ
+width l = l .before .width .result
+
 -- in a turn there is a record
-one-left : (c : tie.In-loop Inv-loop μ-loop) → recordSize (c .before .before .before .args .r) ≤ length (c .before .loop .p .now)
-one-left c = omega (arith, one-of (c .before .loop .left) (recordSize (c .before .before .before .args .r)) (c .loop-test .taken))
+one-left : (c : tie.In-loop Inv-loop μ-loop) → width (c .before) ≤ length (c .before .loop .p .now)
+one-left c = let l = c .before in rw (l .before .width .ensures) (omega (arith, one-of (l .loop .left) (recordSize (start l .args .r)) (c .loop-test .taken)))
 
 slice-aggregate-record-ok : tie.Need-slice-aggregate-record-ok Inv-loop μ-loop
 slice-aggregate-record-ok c = sym (length-take-le _ _ (one-left (c .before)))
 
 record-ok-requires : tie.Need-record-ok-requires Inv-loop μ-loop
-record-ok-requires c κs = rw (length-take-le _ _ (one-left (c .before))) (omega arith)
+record-ok-requires c κs = rw (length-take-le _ _ (one-left (c .before))) (omega (arith, c .before .before .before .width .ensures))
 
 -- the record's part answers as the table does
 same-test : (c : tie.After-record-ok Inv-loop μ-loop) → let k = c .before .before .before .loop in c .record-ok .result ≡ (leb (k .lo) (getD (k .p .now) 0 0) && rightPending (getD (k .p .now) 2 0) (getD (k .p .now) 3 0))
 same-test c =
-    let k = c .before .before .before .loop in
-    c .record-ok .ensures ∙ ap (λ (m : Member). leb (k .lo) (m .id) && rightPending (m .pending) (m .candidate)) (member-part (c .before .before .before .before .before .args .r) (k .p .now))
+    let l = c .before .before .before in
+    let k = l .loop in
+    c .record-ok .ensures ∙ ap (λ (m : Member). leb (k .lo) (m .id) && rightPending (m .pending) (m .candidate)) (member-part (start l .args .r) (width l) (k .p .now) (l .before .width .ensures))
 
 cast-lo : tie.Need-cast-lo Inv-loop μ-loop
 cast-lo c = omega (arith, c .shared-slice-known2 .given 0)
@@ -52,22 +59,23 @@ loop-again : tie.Need-loop-again Inv-loop μ-loop
 loop-again c =
     let i = c .before .before .before .before .before in
     let k = i .before .loop in
-    let r = i .before .before .before .args .r in
+    let r = start (i .before) .args .r in
     let l : (k .left - 1) * recordSize r ≤ length (k .p .now) - recordSize r = omega (arith, one-of (k .left) (recordSize r) (i .loop-test .taken)) in
-    (rw (part-from, length-drop) l, rw part-from (right-record r (k .left) (k .lo) (k .p .now) _ (i .loop-test .taken) (same-test (c .before .before .before)) (c .before .before .if1 .taken) ∙ k .inv .1))
+    let q = part-from (width (i .before)) (k .p .now) in
+    (rw (q, i .before .before .width .ensures, length-drop) l, rw (q, i .before .before .width .ensures) (right-record r (k .left) (k .lo) (k .p .now) _ (i .loop-test .taken) (same-test (c .before .before .before)) (c .before .before .if1 .taken) ∙ k .inv .1))
 
 returns : tie.Need-returns Inv-loop μ-loop
 returns c =
     let i = c .before .before .before in
     let k = i .before .loop in
-    wrong-record (i .before .before .before .args .r) (k .left) (k .lo) (k .p .now) _ (i .loop-test .taken) (same-test (c .before)) (c .if1 .left) ∙ k .inv .1
+    wrong-record (start (i .before) .args .r) (k .left) (k .lo) (k .p .now) _ (i .loop-test .taken) (same-test (c .before)) (c .if1 .left) ∙ k .inv .1
 
 returns-2 : tie.Need-returns-2 Inv-loop μ-loop
 returns-2 c =
     let k = c .before .loop in
     let z : k .left ≡ 0 = omega arith in
-    ap (λ (n : ℕ). rightFrom (k .lo) (membersOf (c .before .before .before .args .r) n (k .p .now))) (sym z) ∙ k .inv .1
+    ap (λ (n : ℕ). rightFrom (k .lo) (membersOf (start (c .before) .args .r) n (k .p .now))) (sym z) ∙ k .inv .1
 
 pub records-ok-spec : {M : Type 1} → statement M
 records-ok-spec =
-    tie.close (tie.spec Inv-loop μ-loop (λ c. search needs) (λ c. search needs) slice-aggregate-record-ok record-ok-requires (λ c. search needs) cast-lo add-lo (λ c. search needs) sub-p part-p-start (λ c. search needs) (λ c. search needs) (λ c. search needs) loop-again returns returns-2)
+    tie.close (tie.spec Inv-loop μ-loop (λ c κs. search needs) (λ c. search needs) slice-aggregate-record-ok record-ok-requires (λ c. search needs) cast-lo add-lo (λ c. search needs) sub-p part-p-start (λ c. search needs) (λ c. search needs) (λ c. search needs) loop-again returns returns-2)

@@ -1,14 +1,11 @@
 -- `well_formed` meets its contract. Each word of a slice is below the limit, so it leaves out those tests. Assumes nothing.
-use Prim.Native.Nat.{_*_, _≤_}
 use mathlib.Core.Path.{_∙_}
 use mathlib.Core.Bool.{and-false}
 use native.Mathlib.Omega.{arith}
 use borrow.Author.Tests.{lt-leb}
-use lib.ListN.{getD}
-use Rattle.model.specs.Table.{recordSize, formed, wellFormed}
-use Rattle.words.proofs.Records.{most-words}
+use lib.ListN.{length-drop}
+use Rattle.model.specs.Table.{formed, wellFormed}
 use Rattle.laws.specs.Words.{members-length}
-use Rattle.laws.specs.Parts.{part-from}
 use Rattle.table.proofs.Formed.{tests}
 use borrow.Author.Needs.{needs}
 use Rattle.table.proofs.well_formed.Statement.{statement}
@@ -36,34 +33,30 @@ returns-4 : tie.Need-returns-4
 unfolding wellFormed formed
 returns-4 c = simp (members-length, lt-leb _ _ (c .if4 .taken), and-false)
 
-small : (c : tie.Else4) → let t = c .before .before .before .before .before .before .before .args .t .now in getD t 1 0 * recordSize (getD t 0 0) ≤ 3072
-small c = most-words _ _ (omega arith) (omega arith)
-
-mul-if5 : tie.Need-mul-if5
-mul-if5 c =
-    let s = small c in
-    omega arith
-
-add-if5-2 : tie.Need-add-if5-2
-add-if5-2 c =
-    let s = small c in
-    omega arith
-
 returns-5 : tie.Need-returns-5
 unfolding wellFormed
-returns-5 c = simp (members-length, lt-leb _ _ (c .if5 .taken), and-false)
+returns-5 c =
+    let l = rw (c .before .offset .ensures .0) at (c .if5 .taken) in
+    simp (members-length, lt-leb _ _ l, and-false)
+
+records-ok-requires : tie.Need-records-ok-requires
+records-ok-requires c κs =
+    let o = c .before .before in
+    (o .before .before .if3 .left, rw (c .records-of .ensures, length-drop) (omega (arith, c .before .if5 .left, o .offset .ensures .0)))
 
 returns-6 : tie.Need-returns-6
 returns-6 c =
-    let e5 = c .before .before in
-    let e4 = e5 .before in
+    let p = c .before in
+    let e5 = p .before in
+    let o = e5 .before in
+    let e4 = o .before in
     let e3 = e4 .before in
     let e2 = e3 .before in
     let k = e2 .before in
     let e1 = k .before .before in
     let t = e1 .before .before .args .t .now in
-    c .records-ok .ensures ∙ rw (part-from 3 t) (tests t (λ i. omega (arith, k .shared-slice-known3 .given i)) (e1 .if1 .left) (e2 .if2 .left) (e3 .if3 .left) (e4 .if4 .left) (e5 .if5 .left))
+    c .records-ok .ensures ∙ rw (p .records-of .ensures) (tests t (λ i. omega (arith, k .shared-slice-known3 .given i)) (e1 .if1 .left) (e2 .if2 .left) (e3 .if3 .left) (e4 .if4 .left) (rw (o .offset .ensures .0) at (e5 .if5 .left)))
 
 pub well-formed-spec : {M : Type 1} → statement M
 well-formed-spec =
-    tie.close (tie.spec returns (λ c. search needs) cast-r (λ c. search needs) cast-n returns-2 returns-3 returns-4 (λ c. search needs) mul-if5 add-if5-2 returns-5 (λ c. search needs) (λ c. search needs) (λ c. search needs) (λ c κs. search needs) returns-6)
+    tie.close (tie.spec returns (λ c. search needs) cast-r (λ c. search needs) cast-n returns-2 returns-3 returns-4 (λ c κs. search needs) returns-5 (λ c κs. search needs) records-ok-requires returns-6)

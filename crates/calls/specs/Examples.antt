@@ -1,0 +1,50 @@
+-- Document 01's session: what the calls answer by the model is what the cases of their kinds of answers say.
+use Prim.Native.Nat.{ℕ, _+_, _*_}
+use mathlib.Core.Path.{_≡_, refl}
+use mathlib.Core.List.{List, [], _∷_}
+use lib.ListN.{replicate}
+use Rattle.model.specs.Identifier.{between, after}
+use Rattle.model.specs.Table.{headerSize, recordSize, formedMember, formed, wellFormed}
+use Rattle.model.specs.Ring.{candidateInside, sound, idealMember, ideal, verdict}
+use Rattle.model.specs.Answer.{Answer}
+use Rattle.model.specs.Steps.{stabilizeFromSuccessor, stabilizeFromPredecessor, stabilize, stabilizeReply, nextStep, renews}
+use Rattle.model.specs.Refusals.{full, cutsOff, tooFewPrincipals, noNewTable, joinRefusal, memberRefusal, leaveRefusal, auditRefusal, newRefusal}
+use Rattle.model.specs.Calls.{joinAnswer, joinWords, stabilizeAnswer, stabilizeWords, rectifyAnswer, rectifyWords, failAnswer, failWords, leaveAnswer, leaveWords, lookupAnswer, auditAnswer, newAnswer, newWords}
+use Rattle.model.specs.Run.{Call, Join, Leave, Fail, Stabilize, Rectify, Lookup, Audit, callAnswer, callWords}
+use Rattle.count.specs.Answers.{answerOf as countOf}
+use Rattle.count.specs.declared.Count.the-variants.{Members, Declined}
+use Rattle.step.specs.Answers.{answerOf as stepOf}
+use Rattle.step.specs.declared.Step.the-variants.{Again, Look, Done}
+use Rattle.notice.specs.Answers.{answerOf as noticeOf}
+use Rattle.notice.specs.declared.Notice.the-variants.{New, Same}
+use Rattle.owner.specs.Answers.{answerOf as ownerOf}
+use Rattle.owner.specs.declared.Owner.the-variants.{Found, Stuck}
+use Rattle.report.specs.Answers.{answerOf as reportOf}
+use Rattle.report.specs.declared.Report.the-variants.{Audited}
+
+-- what each call of a list answers
+abbrev pub answers : List Call → List ℕ → List Answer
+answers [] ws = []
+answers (c ∷ cs) ws = callAnswer ws c ∷ answers cs (callWords ws c)
+
+-- room for five members with r = 2, and the session's first line
+abbrev room : List ℕ
+room = replicate (headerSize + 5 * recordSize 2) 0
+
+abbrev four : List ℕ
+four = 10 ∷ 20 ∷ 30 ∷ 40 ∷ []
+
+first-line : newAnswer room 2 four ≡ countOf (Members 4)
+unfolding newAnswer newRefusal noNewTable
+first-line = refl
+
+-- its other lines, each with its reply; then a notice that changes nothing, and a loss that leaves 40 without a live entry
+abbrev pub lines : List Call
+lines = Join 25 20 ∷ Stabilize 25 ∷ Rectify 30 25 ∷ Stabilize 20 ∷ Stabilize 20 ∷ Audit ∷ Join 30 20 ∷ Leave 10 ∷ Leave 20 ∷ Stabilize 40 ∷ Lookup 30 15 ∷ Rectify 30 25 ∷ Fail 20 ∷ Lookup 40 15 ∷ []
+
+abbrev pub replies : List Answer
+replies = countOf (Members 5) ∷ stepOf (Done 30) ∷ noticeOf New ∷ stepOf (Look 25) ∷ stepOf (Done 25) ∷ reportOf (Audited 5 4 5 2) ∷ countOf (Declined 2) ∷ countOf (Members 4) ∷ countOf (Declined 6) ∷ stepOf Again ∷ ownerOf (Found 20 40 1) ∷ noticeOf Same ∷ countOf (Members 3) ∷ ownerOf (Stuck 40) ∷ []
+
+session : answers lines (newWords room 2 four) ≡ replies
+unfolding between after formedMember formed wellFormed candidateInside sound idealMember ideal verdict stabilizeFromSuccessor stabilizeFromPredecessor stabilize stabilizeReply nextStep renews full cutsOff tooFewPrincipals noNewTable joinRefusal memberRefusal leaveRefusal auditRefusal newRefusal joinAnswer joinWords stabilizeAnswer stabilizeWords rectifyAnswer rectifyWords failAnswer failWords leaveAnswer leaveWords lookupAnswer auditAnswer newAnswer newWords callAnswer callWords
+session = refl

@@ -1,0 +1,58 @@
+-- What the answer of `judged` says of a join. Assumes nothing.
+use Prim.Native.Nat.{ℕ, zero, suc}
+use mathlib.Core.Path.{_≡_, refl, ap}
+use mathlib.Core.Bool.{not}
+use mathlib.Core.List.{List}
+use native.Mathlib.Omega.{arith}
+use borrow.Author.Tests.{not-false}
+use Rattle.model.specs.Table.{membersIn, ids, wellFormed}
+use Rattle.model.specs.Answer.{Answer, declined, answer, afterwards}
+use Rattle.model.specs.Refusals.{joinRefusal}
+use Rattle.laws.specs.Accepted.{none-applies, join-accepted}
+use Rattle.table.specs.Formed.{Formed}
+use Rattle.table.specs.Rank.{rank}
+use Rattle.table.proofs.Formed.{formed}
+use Rattle.table.proofs.Place.{rank-stands}
+use Rattle.join.specs.Entry.{entry, entryOf, Admits}
+use Rattle.join.specs.declared.Entry.{Entry}
+use Rattle.join.specs.declared.Entry.the-variants.{May, Declined}
+
+-- which case an answer is, and its numbers
+abbrev side : Entry → ℕ
+side (May at k) = 0
+side (Declined c) = 1
+
+abbrev first : Entry → ℕ
+first (May at k) = at
+first (Declined c) = c
+
+abbrev second : Entry → ℕ
+second (May at k) = k
+second (Declined c) = c
+
+join-formed : (ws : List ℕ) (j p : ℕ) → joinRefusal ws j p ≡ 0 → Formed ws
+unfolding joinRefusal
+join-formed ws j p h = formed ws (not-false _ (none-applies 0 (not (wellFormed ws)) _ h .0))
+
+module _ (ws : List ℕ) (j p : ℕ) where
+  abbrev entered : ℕ → Entry
+  entered c = entry c (rank (ids (membersIn ws)) j) (rank (ids (membersIn ws)) p)
+
+  -- no cause declines the join
+  pub admits : (at k : ℕ) → May at k ≡ entryOf ws j p → (joinRefusal ws j p ≡ 0) × Admits ws at k j p
+  admits at k e = go (joinRefusal ws j p) refl e
+    where
+      go : (c : ℕ) → joinRefusal ws j p ≡ c → May at k ≡ entered c → (joinRefusal ws j p ≡ 0) × Admits ws at k j p
+      go zero g e =
+          let f = join-formed ws j p g in
+          let m = join-accepted ws j p g in
+          (g, record { table = f; may = m; place = ap first e; stands = rank-stands ws p k f (m .by) (ap second e) })
+      go (suc c) g e = absurd (omega (arith, ap side e))
+
+  -- c declines it: that is the answer, and the words are as they were
+  pub refused-join : (c : ℕ) → Declined c ≡ entryOf ws j p → (a : Answer) (new : List ℕ) → (declined c ≡ answer (joinRefusal ws j p) a) × (ws ≡ afterwards (joinRefusal ws j p) new ws)
+  refused-join c e a new = go (joinRefusal ws j p) refl e
+    where
+      go : (d : ℕ) → joinRefusal ws j p ≡ d → Declined c ≡ entered d → (declined c ≡ answer (joinRefusal ws j p) a) × (ws ≡ afterwards (joinRefusal ws j p) new ws)
+      go zero g e = absurd (omega (arith, ap side e))
+      go (suc d) g e = rw (g, ap first e) (refl, refl)

@@ -1,0 +1,53 @@
+-- `stabilize_at` meets its contract: it puts the stepped record in its place and counts the step. Assumes nothing.
+use Prim.Native.Nat.{ℕ}
+use mathlib.Core.Path.{_≡_, sym, ap, _∙_}
+use mathlib.Core.List.{List}
+use borrow.Author.Needs.{needs}
+use lib.ListN.{getD, set}
+use Rattle.model.specs.Identifier.{space}
+use Rattle.model.specs.Table.{Member, membersIn, tableOf}
+use Rattle.model.specs.Ring.{nobody}
+use Rattle.model.specs.Answer.{accepted}
+use Rattle.model.specs.Steps.{stabilize, stabilizeReply, replaced, withMembers, nextStep}
+use Rattle.model.specs.Calls.{written}
+use Rattle.member.specs.View.{view}
+use Rattle.laws.specs.Stabilize.{same-id}
+use Rattle.table.proofs.Members.{id-of}
+use Rattle.stabilize.proofs.stabilize_at.Statement.{statement}
+use Rattle.stabilize.proofs.stabilize_at.Tie as tie
+
+abbrev start : tie.After-take-step → tie.Start
+start c = c .before .before .before .before .before
+
+-- the member at the place, and the stepped record, in the model's terms
+abbrev here : tie.Start → Member
+here s = getD (membersIn (s .args .t .now)) (s .args .k) nobody
+
+stepped : (c : tie.After-take-step) → let ws = start c .args .t .now in view (getD ws 0 0) (c .take-step .result .member) ≡ stabilize space (membersIn ws) (here (start c))
+stepped c = c .take-step .ensures .leaves ∙ ap (stabilize space (membersIn (start c .args .t .now))) (c .before .before .member-at .ensures)
+
+replace-at-requires : tie.Need-replace-at-requires
+replace-at-requires c κs =
+    let o = c .before .before in
+    let s = start o in
+    let ms = membersIn (s .args .t .now) in
+    (s .pre .0, record { within = s .pre .1; has-id = id-of ms (s .args .k) ∙ sym (ap (λ (m : Member). m .id) (stepped o) ∙ same-id ms (here s) space) })
+
+-- the words that the record's replacement leaves
+left : (c : tie.After-replace-at) → let s = start (c .before .before .before) in let ws = s .args .t .now in c .replace-at .last .0 ≡ written (withMembers (replaced (stabilize space (membersIn ws) (here s)) (membersIn ws)) (tableOf ws)) ws
+left c =
+    let o = c .before .before .before in
+    let ws = start o .args .t .now in
+    c .replace-at .ensures ∙ ap (λ (m : Member). written (withMembers (replaced m (membersIn ws)) (tableOf ws)) ws) (stepped o)
+
+returns : tie.Need-returns
+returns c =
+    let n = c .before .before in
+    let p = n .before .before .before .before in
+    let o = p .before .before .before in
+    let ms = membersIn (start o .args .t .now) in
+    (o .take-step .ensures .replies ∙ ap (λ (m : Member). accepted (stabilizeReply ms m)) (o .before .before .member-at .ensures), n .count-step .ensures ∙ ap (λ (l : List ℕ). set l 2 (nextStep (getD l 2 0))) (left p))
+
+pub stabilize-at-spec : {M : Type 1} → statement M
+stabilize-at-spec =
+    tie.close (tie.spec (λ c κs. search needs) (λ c κs. search needs) replace-at-requires (λ c κs. search needs) (λ c. search needs) returns)
