@@ -5,28 +5,28 @@ ghost use Rattle.model.specs.Answer.{accepted};
 ghost use Rattle.model.specs.Steps.{auditReply};
 ghost use Rattle.model.specs.Calls.{auditAnswer};
 ghost use Rattle.table.specs.Formed.{Formed};
-ghost use Rattle.reply.specs.Answers.{answerOf};
-use reply::Reply;
+ghost use Rattle.report.specs.Answers.{answerOf};
+use report::Report;
 
 // The audit of a well-formed table.
-fn report(t: &[u32]) -> Reply
+fn audit_of(t: &[u32]) -> Report
     requires { ⌜ Formed (now t) ⌝ }
     ensures { λ a. ⌜ answerOf a ≡ accepted (auditReply (tableOf (now (t .entry)))) ⌝ }
 {
     let n = t[1] as usize;
     let best = ring::best_places(t);
-    let on = ring::count_ring(t, &best);
+    let on = cycle::count_ring(t, &best);
     let count = principal::count_principals(t);
     let v = verdict::verdict_of(t, &best, count);
-    Reply::Report(n as u32, count as u32, on as u32, v)
+    Report::Audited(n as u32, count as u32, on as u32, v)
 }
 
 // The audit: members, principals, ring members and the verdict; or 1.
-pub fn audit(t: &[u32]) -> Reply
+pub fn audit(t: &[u32]) -> Report
     ensures { λ a. ⌜ answerOf a ≡ auditAnswer (now (t .entry)) ⌝ }
 {
     if table::well_formed(t) {
-        return report(t);
+        return audit_of(t);
     }
-    Reply::Declined(1)
+    Report::Declined(1)
 }

@@ -17,13 +17,13 @@ use Rattle.model.specs.Refusals.{findingsRefusal}
 use Rattle.laws.specs.Accepted.{declined-answer, unchanged}
 use Rattle.table.proofs.Members.{ids-count}
 use Rattle.ring.proofs.Laws.{member-count}
-use Rattle.reply.specs.Answers.{answerOf}
+use Rattle.report.specs.Answers.{answerOf}
 use Rattle.finding.specs.declared.Survey.{Survey}
 use Rattle.places.specs.Each.{Each}
 use Rattle.places.proofs.Arrays.{each-counted, each-none}
 use Rattle.principal.specs.Marks.{principalBit}
 use Rattle.finding.specs.Survey.{Surveyed, Prepared}
-use Rattle.finding.proofs.Moves.{no-moves}
+use Rattle.moves.proofs.Moves.{no-moves}
 
 -- Counted by their numbers
 

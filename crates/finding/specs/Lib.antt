@@ -1,4 +1,3 @@
 -- What the contracts of this crate cite besides the model.
 pub mod View
 pub mod Survey
-pub mod Ways

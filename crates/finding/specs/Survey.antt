@@ -11,7 +11,7 @@ use Rattle.model.specs.Refusals.{findingsRefusal}
 use Rattle.table.specs.Formed.{Formed}
 use Rattle.places.specs.Each.{Each}
 use Rattle.principal.specs.Marks.{principalBit}
-use Rattle.reply.specs.Answers.{answerOf}
+use Rattle.report.specs.Answers.{answerOf}
 use Rattle.finding.specs.declared.Survey.{Survey}
 
 -- a survey has the numbers of the members that it counts, and counts some only in a well-formed table

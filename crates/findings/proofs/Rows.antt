@@ -49,9 +49,9 @@ principal-is s g = LL.owed U.the-type U′.the-laws s _ g .1 .1 .0
 pub moves-is : (s : Survey) → Is S s (surveyVal s ∷ []) → Field (s .moves)
 moves-is s g = LL.owed U.the-type U′.the-laws s _ g .1 .1 .1 .0
 
--- the offsets of a record and of a word fit
+-- the offsets of a record and of a number fit
 pub record-fits : {k n : ℕ} → n * 12 < 2 ^ 63 → k < n → k * 12 < 2 ^ 64
 record-fits room within = omega arith
 
-pub word-fits : {k n : ℕ} → n * 12 < 2 ^ 63 → k < n → k * 4 < 2 ^ 64
-word-fits room within = omega arith
+pub number-fits : {k n : ℕ} → n * 12 < 2 ^ 63 → k < n → k * 2 < 2 ^ 64
+number-fits room within = omega arith

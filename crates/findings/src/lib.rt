@@ -4,13 +4,13 @@ ghost use Prim.Native.Nat.{_≤_};
 ghost use lib.ListN.{length};
 ghost use Rattle.model.specs.Table.{membersIn};
 ghost use Rattle.model.specs.Calls.{findingsAnswer, findingsAfter};
-ghost use Rattle.reply.specs.Answers.{answerOf};
+ghost use Rattle.report.specs.Answers.{answerOf};
 ghost use Rattle.finding.specs.View.{views};
 ghost use Rattle.finding.specs.Survey.{Surveyed};
 ghost use Rattle.findings.specs.Filled.{filled};
 use finding::Finding;
 use finding::Survey;
-use reply::Reply;
+use report::Report;
 
 // The findings that a survey counts, each in its place; later records stay.
 fn fill(t: &[u32], s: Survey, out: &mut [Finding])
@@ -30,7 +30,7 @@ fn fill(t: &[u32], s: Survey, out: &mut [Finding])
 
 // The audit with its findings: one record a member in `out`, identifier, principal or not and moves to the ring; or 1; or 10 where `out` has fewer
 // records than the table members. Later records stay, and all of them where a number declines the call.
-pub fn findings(t: &[u32], out: &mut [Finding]) -> Reply
+pub fn findings(t: &[u32], out: &mut [Finding]) -> Report
     ensures { λ a. ⌜ (answerOf a ≡ findingsAnswer (now (t .entry)) (views (now (out .entry)))) × (views (now (out .exit)) ≡ findingsAfter (now (t .entry)) (views (now (out .entry)))) ⌝ }
 {
     let s = finding::prepare(t, out.len());

@@ -6,14 +6,14 @@ ghost use lib.ListN.{length, take};
 ghost use Rattle.model.specs.Lists.{bit as bitOf, count};
 
 // 1 for yes, 0 for no.
-pub fn bit(b: bool) -> u32
+pub fn bit(b: bool) -> u16
     ensures { λ x. ⌜ x ≡ bitOf b ⌝ }
 {
     if b { 1 } else { 0 }
 }
 
 // How many of the first n numbers are v.
-pub fn count_of(a: &[u32; 256], n: usize, v: u32) -> usize
+pub fn count_of(a: &[u16; 256], n: usize, v: u16) -> usize
     requires { ⌜ (n ≤ 256) × (n ≤ length (now a)) ⌝ }
     ensures { λ c. ⌜ (c ≡ count (eqb v) (take n (now (a .entry)))) × (c ≤ n) ⌝ }
 {

@@ -1,6 +1,6 @@
 -- Pairs, lists and tables: what each turn of the loops leaves to mark. Assumes nothing.
 use Prim.Native.Nat.{ℕ, zero, suc, _+_, _≤_, _<_}
-use mathlib.Core.Path.{_≡_, refl, sym, ap, _∙_}
+use mathlib.Core.Path.{_≡_, refl, sym, _∙_}
 use mathlib.Core.List.{List, [], _∷_}
 use mathlib.Core.Bool.{Bool, true, false, not, _&&_, _||_, or-false, or-assoc, and-true, false≢true}
 use native.Mathlib.Nat.{le-of-suc-le-suc}
@@ -95,13 +95,13 @@ module _ (ws : List ℕ) where
     pair-marked q [] h m j l = absurd (omega arith)
     pair-marked q (b ∷ p) h m j l = rw (m .at j l) (or-assoc (covered a j) (between q (idAt j) b) (skips (idAt j) b p))
 
-    -- `skipped`: one list more
+    -- `mark_skipped`: one list more
     pub list-marked : (k : ℕ) → k < n → Marks n (λ j. skips (idAt j) (idAt k) (getD ms k nobody .successors)) a c → (j : ℕ) → j < n → (covered c j || any (skipsIt (idAt j)) (drop (k + 1) ms)) ≡ (covered a j || any (skipsIt (idAt j)) (drop k ms))
     list-marked k h m j l =
         let i : k < length ms = omega (arith, members-length (getD ws 0 0) n (drop headerSize ws)) in
         rw (add-one k, drop-cons ms k nobody i, m .at j l, id-of ms k i) (or-assoc (covered a j) (skipsIt (idAt j) (getD ms k nobody)) (any (skipsIt (idAt j)) (drop (suc k) ms)))
 
-  -- `skipped`: what is marked and what the lists from k on skip is all that is skipped
+  -- `mark_skipped`: what is marked and what the lists from k on skip is all that is skipped
   abbrev pub Left : List ℕ → ℕ → Type 0
   Left a k = (j : ℕ) → j < n → (covered a j || any (skipsIt (idAt j)) (drop k ms)) ≡ any (skipsIt (idAt j)) ms
 

@@ -1,6 +1,6 @@
 -- Reaches: a range marked, no range marked, and the marks read off by the largest reach so far. Assumes nothing.
 use Prim.Native.Nat.{ℕ, zero, suc, _+_, _≤_, _<_}
-use mathlib.Core.Path.{_≡_, refl, sym, ap, _∙_}
+use mathlib.Core.Path.{_≡_, refl, sym, _∙_}
 use mathlib.Core.List.{List, [], _∷_}
 use mathlib.Core.Bool.{Bool, true, false, not, _&&_, _||_, and-false, or-false, or-true, or-assoc}
 use mathlib.Core.Logic.{_⊎_, inl, inr}
@@ -10,6 +10,7 @@ use native.Mathlib.Omega.{arith}
 use borrow.Author.Tests.{lt-ltb, le-ltb, le-leb, lt-leb}
 use lib.Dec.{ltb, leb, leb·suc-suc}
 use lib.ListN.{length, getD, take, set, replicate, length-set}
+use lib.Seq.{getD-set-other}
 use Rattle.model.specs.Lists.{if_then_else_, any}
 use Rattle.laws.specs.Order.{less?}
 use Rattle.principal.specs.Marks.{covered, Marks}
@@ -108,3 +109,12 @@ not-covered a k top t = go (less? k top) (rw (add-one k) at (t k))
     go : (k < top) ⊎ (top ≤ k) → covered a k ≡ ltb k top → leb top k ≡ not (covered a k)
     go (inl u) e = rw (e, lt-ltb k top u, lt-leb top k u)
     go (inr u) e = rw (e, le-ltb k top u, le-leb top k u)
+
+-- The reaches not read yet
+
+-- from place k on an array is as it was
+abbrev pub Unread : List ℕ → ℕ → List ℕ → Type 0
+Unread a k b = (j : ℕ) → k ≤ j → getD b j 0 ≡ getD a j 0
+
+pub unread-stored : (a : List ℕ) (k : ℕ) (b : List ℕ) (v : ℕ) → Unread a k b → Unread a (k + 1) (set b k v)
+unread-stored a k b v r j h = getD-set-other b k j v 0 (λ (e : j ≡ k). omega arith) ∙ r j (omega arith)

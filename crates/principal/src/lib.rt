@@ -5,7 +5,7 @@ ghost use mathlib.Core.Path.{_≡_};
 ghost use mathlib.Core.Bool.{_&&_};
 ghost use Prim.Native.Nat.{suc, _≤_, _<_};
 ghost use lib.Dec.{leb, ltb};
-ghost use lib.ListN.{length, getD};
+ghost use lib.ListN.{length, getD, replicate};
 ghost use Rattle.model.specs.Lists.{if_then_else_};
 ghost use Rattle.model.specs.Identifier.{between};
 ghost use Rattle.model.specs.Table.{membersIn, ids};
@@ -16,21 +16,22 @@ ghost use Rattle.places.specs.Each.{Each};
 ghost use Rattle.principal.specs.Marks.{Marks, Skipped, principalBit};
 
 // The members from place lo to below hi are marked.
-fn cover(reach: &mut [usize; 256], lo: usize, hi: usize)
+fn cover(reach: &mut [u16; 256], lo: usize, hi: usize)
     requires { ⌜ (hi ≤ 256) × (length (now reach) ≡ 256) ⌝ }
     ensures { λ _. ⌜ Marks 256 (λ j. leb lo j && ltb j hi) (now (reach .entry)) (now (reach .exit)) ⌝ }
 {
     if hi <= lo {
         return;
     }
-    if hi <= reach[lo] {
+    let end = hi as u16;
+    if end <= reach[lo] {
         return;
     }
-    reach[lo] = hi;
+    reach[lo] = end;
 }
 
 // The members between q and b are marked: lo members are not above q, and hi are below b.
-fn mark_pair(t: &[u32], reach: &mut [usize; 256], q: u32, lo: usize, b: u32, hi: usize)
+fn mark_pair(t: &[u32], reach: &mut [u16; 256], q: u32, lo: usize, b: u32, hi: usize)
     requires { ⌜ Formed (now t) ⌝ }
     requires { ⌜ (lo ≡ rankOf (ids (membersIn (now t))) (suc q)) × (hi ≡ rankOf (ids (membersIn (now t))) b) × (hi ≤ getD (now t) 1 0) ⌝ }
     requires { ⌜ length (now reach) ≡ 256 ⌝ }
@@ -58,14 +59,14 @@ fn rank_past(t: &[u32], k: usize, b: u32) -> usize
 }
 
 // The members that the list of the member at place k skips are marked.
-fn mark_list(t: &[u32], reach: &mut [usize; 256], k: usize)
+fn mark_list(t: &[u32], reach: &mut [u16; 256], k: usize)
     requires { ⌜ Formed (now t) ⌝ }
     requires { ⌜ (k < getD (now t) 1 0) × (length (now reach) ≡ 256) ⌝ }
     ensures { λ _. ⌜ Marks (getD (now (t .entry)) 1 0) (λ j. skips (getD (ids (membersIn (now (t .entry)))) j 0) (getD (ids (membersIn (now (t .entry)))) k 0) (getD (membersIn (now (t .entry))) k nobody .successors)) (now (reach .entry)) (now (reach .exit)) ⌝ }
 {
     let r = t[0] as usize;
     let at = words::offset(r, k);
-    let from = at + 4;
+    let from = at + words::LIST;
     let end = from + r;
     let mut p = &t[from..end];
     let mut q = t[at];
@@ -80,41 +81,40 @@ fn mark_list(t: &[u32], reach: &mut [usize; 256], k: usize)
     }
 }
 
-// The members that some list skips, marked.
-fn skipped(t: &[u32]) -> [usize; 256]
+// The members that some list skips are marked, where none was.
+fn mark_skipped(t: &[u32], reach: &mut [u16; 256])
     requires { ⌜ Formed (now t) ⌝ }
-    ensures { λ a. ⌜ (length a ≡ 256) × Skipped (now (t .entry)) a ⌝ }
+    requires { ⌜ now reach ≡ replicate 256 0 ⌝ }
+    ensures { λ _. ⌜ (length (now (reach .exit)) ≡ 256) × Skipped (now (t .entry)) (now (reach .exit)) ⌝ }
 {
     let n = t[1] as usize;
-    let mut a = [0usize; 256];
     let mut k = 0;
     while k < n {
-        mark_list(t, &mut a, k);
+        mark_list(t, reach, k);
         k += 1;
     }
-    a
 }
 
 // The larger of two.
-fn larger(a: usize, b: usize) -> usize
+fn larger(a: u16, b: u16) -> u16
     ensures { λ m. ⌜ m ≡ (if ltb a b then b else a) ⌝ }
 {
     if a < b { b } else { a }
 }
 
-// By place: 1 for a principal, else 0.
-pub fn principal_bits(t: &[u32]) -> [u32; 256]
+// By place: 1 for a principal, else 0. Each number takes the place of the reach that was read there.
+pub fn principal_bits(t: &[u32]) -> [u16; 256]
     requires { ⌜ Formed (now t) ⌝ }
     ensures { λ a. ⌜ Each (membersIn (now (t .entry))) (principalBit (membersIn (now (t .entry)))) (getD (now (t .entry)) 1 0) a ⌝ }
 {
     let n = t[1] as usize;
-    let reach = skipped(t);
-    let mut a = [0u32; 256];
-    let mut top: usize = 0;
+    let mut a = [0u16; 256];
+    mark_skipped(t, &mut a);
+    let mut top: u16 = 0;
     let mut k = 0;
     while k < n {
-        top = larger(top, reach[k]);
-        a[k] = places::bit(top <= k);
+        top = larger(top, a[k]);
+        a[k] = places::bit(top <= k as u16);
         k += 1;
     }
     a

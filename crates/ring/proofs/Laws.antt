@@ -1,28 +1,25 @@
 -- Members by place: an identifier's place, the member there, its best successor, and one turn of each loop. Assumes nothing.
-use Prim.Native.Nat.{ℕ, zero, suc, _+_, _*_, _-_, _≤_, _<_}
+use Prim.Native.Nat.{ℕ, zero, suc, _+_, _-_, _≤_, _<_}
 use mathlib.Core.Path.{_≡_, refl, sym, ap, _∙_}
 use mathlib.Core.List.{List, [], _∷_}
 use mathlib.Core.Bool.{Bool, true, false, _&&_, _||_, false≢true}
-use mathlib.Core.Logic.{_⊎_, inl, inr}
 use mathlib.Core.Option.{some, none}
 use native.Mathlib.Nat.{le-of-suc-le-suc}
 use native.Mathlib.Numerals.{add-one}
 use native.Mathlib.Omega.{arith}
 use borrow.Author.Tests.{eqb-true, eq-eqb, ne-eqb, lt-ltb, le-ltb}
 use lib.Dec.{ltb, eqb}
-use lib.ListN.{length, getD, take, drop, set, drop-of-length-le}
-use lib.Seq.{drop-cons, drop-drop, getD-set-same, getD-set-other}
-use Rattle.model.specs.Lists.{if_then_else_, every, any, bit, count, contains}
-use Rattle.model.specs.Table.{Member, headerSize, recordSize, memberOf, membersIn, ids}
+use lib.ListN.{length, getD, drop, set, drop-of-length-le}
+use lib.Seq.{drop-cons}
+use Rattle.model.specs.Lists.{if_then_else_, every, any, contains}
+use Rattle.model.specs.Table.{Member, headerSize, membersIn, ids}
 use Rattle.model.specs.Ring.{live, nobody, named, hasLive, firstLive, bestSuccessor}
 use Rattle.laws.specs.Lists.{or-false, Rising, rising-true, above-in, above-rising, length-ids}
-use Rattle.laws.specs.Order.{equal?}
 use Rattle.laws.specs.Places.{place-in}
-use Rattle.laws.specs.Parts.{first-member}
 use Rattle.laws.specs.Words.{members-length}
 use Rattle.table.specs.Formed.{Formed}
 use Rattle.table.specs.Rank.{rank}
-use Rattle.table.proofs.Members.{ids-count, members-drop}
+use Rattle.table.proofs.Members.{ids-count}
 use Rattle.table.proofs.Place.{contains-rank}
 use Rattle.places.proofs.Arrays.{stored-one}
 use Rattle.ring.specs.Places.{placeOf, firstPlace, nextPlace, BestPlaces}

@@ -1,5 +1,5 @@
 -- The ideal table in one pass: each record against the identifier before it and the one after it, round the end. Assumes nothing.
-use Prim.Native.Nat.{ℕ, zero, suc, _+_, _*_, _-_, _≤_, _<_}
+use Prim.Native.Nat.{ℕ, suc, _*_, _-_, _<_}
 use native.Mathlib.Nat.{add-zero}
 use mathlib.Core.Path.{_≡_, refl, sym, ap, ap₂, _∙_}
 use mathlib.Core.List.{List, [], _∷_}
@@ -10,13 +10,13 @@ use borrow.Author.Tests.{eq-eqb, ne-eqb}
 use lib.ListN.{length, getD, drop, length-drop}
 use lib.Seq.{drop-cons, getD-drop}
 use Rattle.model.specs.Lists.{every, rising, lastOf}
-use Rattle.model.specs.Table.{Member, recordSize, membersOf, ids}
+use Rattle.model.specs.Table.{Member, recordSize, memberOf, membersOf, ids}
 use Rattle.model.specs.Ring.{successor, nextUp, nextDown, idealMember}
 use Rattle.laws.specs.Lists.{Rising, rising-true, length-ids}
 use Rattle.laws.specs.Places.{next-up-place, next-up-end, next-down-place, next-down-start}
 use Rattle.laws.specs.Words.{members-length}
 use Rattle.laws.specs.Parts.{first-member}
-use Rattle.laws.specs.Parts.{successor-word}
+use Rattle.table.proofs.Members.{id-word}
 
 -- the identifier of the first member, or d
 abbrev pub firstId : ℕ → List Member → ℕ
@@ -51,44 +51,36 @@ module _ (xs : List ℕ) (rise : Rising xs) where
       let u = next-up-place xs rise k l' ∙ j in
       ap₂ _&&_ (one m (rw i at u) (rw i at d)) (from-place (suc k) (m' ∷ ns) (m .id) l' z (next-down-place xs rise k l' ∙ i))
 
--- the identifier at place k of n records
-id-word : (r n k : ℕ) (ws : List ℕ) → k < n → getD (ids (membersOf r n ws)) k 0 ≡ getD ws (k * recordSize r) 0
-id-word r zero k ws h = absurd (omega arith)
-id-word r (suc n) zero ws h = let q : 0 * recordSize r ≡ 0 = omega arith in rw q
-id-word r (suc n) (suc k) ws h =
-    let q : suc k * recordSize r ≡ recordSize r + k * recordSize r = omega arith in
-    id-word r n k (drop (recordSize r) ws) (omega arith) ∙ rw (q, getD-drop)
-
 -- all records, from the last one's identifier on
 pub ideal-words : (r n : ℕ) (ws : List ℕ) → 0 < n → rising (ids (membersOf r n ws)) ≡ true → idealFrom (getD ws 0 0) (getD ws ((n - 1) * recordSize r) 0) (membersOf r n ws) ≡ every (idealMember (ids (membersOf r n ws))) (membersOf r n ws)
 ideal-words r n ws h rise =
     let ms = membersOf r n ws in
     let e : length (ids ms) ≡ n = length-ids ms ∙ members-length r n ws in
     let lo : getD (ids ms) 0 0 ≡ getD ws 0 0 = rw (first-member r n ws h) in
-    let hi : lastOf (ids ms) ≡ getD ws ((n - 1) * recordSize r) 0 = rw e (id-word r n (n - 1) ws (omega arith)) in
+    let hi : lastOf (ids ms) ≡ getD ws ((n - 1) * recordSize r) 0 = rw e (sym (id-word r n (n - 1) ws (omega arith))) in
     let up = rising-true (ids ms) rise in
     sym (from-place (ids ms) up 0 ms (getD ws ((n - 1) * recordSize r) 0) (omega arith) refl (next-down-start (ids ms) up ∙ hi) ∙ rw lo)
 
--- the record at the front, when others follow
-module _ (r n lo be : ℕ) (ws : List ℕ) (h : 1 ≤ r) (more : 1 < n) where
-  turn : idealFrom lo be (membersOf r n ws) ≡ ((eqb (getD ws 4 0) (getD ws (recordSize r) 0) && eqb (getD ws 1 0) be) && idealFrom lo (getD ws 0 0) (membersOf r (n - 1) (drop (recordSize r) ws)))
+-- the record at the front, with the successor u, when others follow
+module _ (r n lo be : ℕ) (ws : List ℕ) (u : ℕ) (s : successor (memberOf r ws) ≡ u) (more : 1 < n) where
+  turn : idealFrom lo be (membersOf r n ws) ≡ ((eqb u (getD ws (recordSize r) 0) && eqb (getD ws 1 0) be) && idealFrom lo (getD ws 0 0) (membersOf r (n - 1) (drop (recordSize r) ws)))
   turn =
       let f : firstId lo (membersOf r (n - 1) (drop (recordSize r) ws)) ≡ getD ws (recordSize r) 0 = rw (first-member r (n - 1) (drop (recordSize r) ws) (omega arith), getD-drop, add-zero) in
-      rw (first-member r n ws (omega arith), f, successor-word r ws h)
+      rw (first-member r n ws (omega arith), f, s)
 
-  pub not-above : (getD ws 4 0 ≡ getD ws (recordSize r) 0 → ⊥) → false ≡ idealFrom lo be (membersOf r n ws)
+  pub not-above : (u ≡ getD ws (recordSize r) 0 → ⊥) → false ≡ idealFrom lo be (membersOf r n ws)
   not-above a = rw (turn, ne-eqb _ _ a)
 
   pub not-below : (getD ws 1 0 ≡ be → ⊥) → false ≡ idealFrom lo be (membersOf r n ws)
   not-below b = rw (turn, ne-eqb _ _ b, and-false)
 
-  pub ideal-on : getD ws 4 0 ≡ getD ws (recordSize r) 0 → getD ws 1 0 ≡ be → idealFrom lo (getD ws 0 0) (membersOf r (n - 1) (drop (recordSize r) ws)) ≡ idealFrom lo be (membersOf r n ws)
+  pub ideal-on : u ≡ getD ws (recordSize r) 0 → getD ws 1 0 ≡ be → idealFrom lo (getD ws 0 0) (membersOf r (n - 1) (drop (recordSize r) ws)) ≡ idealFrom lo be (membersOf r n ws)
   ideal-on a b = rw (turn, eq-eqb _ _ a, eq-eqb _ _ b)
 
--- the last record
-module _ (r n lo be : ℕ) (ws : List ℕ) (h : 1 ≤ r) (one : n ≡ 1) where
-  pub last-not-above : (getD ws 4 0 ≡ lo → ⊥) → false ≡ idealFrom lo be (membersOf r n ws)
-  last-not-above a = rw (one, successor-word r ws h, ne-eqb _ _ a)
+-- the last record, with the successor u
+module _ (r n lo be : ℕ) (ws : List ℕ) (u : ℕ) (s : successor (memberOf r ws) ≡ u) (one : n ≡ 1) where
+  pub last-not-above : (u ≡ lo → ⊥) → false ≡ idealFrom lo be (membersOf r n ws)
+  last-not-above a = rw (one, s, ne-eqb _ _ a)
 
-  pub last-above : getD ws 4 0 ≡ lo → eqb (getD ws 1 0) be ≡ idealFrom lo be (membersOf r n ws)
-  last-above a = rw (one, successor-word r ws h, eq-eqb _ _ a, and-true)
+  pub last-above : u ≡ lo → eqb (getD ws 1 0) be ≡ idealFrom lo be (membersOf r n ws)
+  last-above a = rw (one, s, eq-eqb _ _ a, and-true)

@@ -8,13 +8,13 @@ use borrow.Author.Tests.{eq-eqb, ne-eqb}
 use Rattle.model.specs.Identifier.{between}
 use Rattle.model.specs.Lists.{every}
 use Rattle.model.specs.Table.{recordSize, memberOf, membersOf}
-use Rattle.model.specs.Ring.{candidateInside}
-use Rattle.laws.specs.Parts.{first-member, successor-word}
+use Rattle.model.specs.Ring.{successor, candidateInside}
+use Rattle.laws.specs.Parts.{first-member}
 
--- a pending candidate, with its test b
-pub pending-inside : (ws : List ℕ) (b : Bool) → getD ws 2 0 ≡ 1 → b ≡ between (getD ws 0 0) (getD ws 3 0) (getD ws 4 0) → (r : ℕ) → 1 ≤ r → b ≡ candidateInside (memberOf r ws)
+-- a pending candidate, with its test b: its member has the successor u
+pub pending-inside : (ws : List ℕ) (b : Bool) (u : ℕ) → getD ws 2 0 ≡ 1 → b ≡ between (getD ws 0 0) (getD ws 3 0) u → (r : ℕ) → successor (memberOf r ws) ≡ u → b ≡ candidateInside (memberOf r ws)
 unfolding candidateInside
-pending-inside ws b e t r h = rw (eq-eqb _ _ e, successor-word r ws h) t
+pending-inside ws b u e t r s = rw (eq-eqb _ _ e, s) t
 
 pub none-inside : (ws : List ℕ) → (getD ws 2 0 ≡ 1 → ⊥) → (r : ℕ) → 1 ≤ r → true ≡ candidateInside (memberOf r ws)
 unfolding candidateInside

@@ -11,11 +11,11 @@ ghost use Rattle.ring.specs.Places.{BestPlaces};
 
 // Lies the candidate of the record that the part holds, if one is pending, between its member and the first entry?
 fn candidate_inside(s: &[u32]) -> bool
-    requires { ⌜ 5 ≤ length (now s) ⌝ }
+    requires { ⌜ recordSize 1 ≤ length (now s) ⌝ }
     ensures { λ b. ⌜ ((r : ℕ) → 1 ≤ r → b ≡ candidateInside (memberOf r (now (s .entry)))) ⌝ }
 {
     if s[2] == 1 {
-        return ident::between(s[0], s[3], s[4]);
+        return ident::between(s[0], s[3], s[words::LIST]);
     }
     true
 }
@@ -25,7 +25,7 @@ pub fn candidates_inside(s: &[u32], r: usize, n: usize) -> bool
     requires { ⌜ (1 ≤ r) × (r ≤ 8) × (n * recordSize r ≤ length (now s)) ⌝ }
     ensures { λ b. ⌜ b ≡ every candidateInside (membersOf r n (now (s .entry))) ⌝ }
 {
-    let w = r + 4;
+    let w = words::width(r);
     let mut p = s;
     let mut left = n;
     while 0 < left {
@@ -48,14 +48,14 @@ pub fn is_ideal(s: &[u32], r: usize, n: usize) -> bool
     if n == 0 {
         return true;
     }
-    let w = r + 4;
+    let w = words::width(r);
     let last = (n - 1) * w;
     let lowest = s[0];
     let mut below = s[last];
     let mut p = s;
     let mut left = n;
     while 1 < left {
-        if p[4] != p[w] {
+        if p[words::LIST] != p[w] {
             return false;
         }
         if p[1] != below {
@@ -65,14 +65,14 @@ pub fn is_ideal(s: &[u32], r: usize, n: usize) -> bool
         p = &p[w..];
         left -= 1;
     }
-    if p[4] != lowest {
+    if p[words::LIST] != lowest {
         return false;
     }
     p[1] == below
 }
 
 // The verdict on a table with so many principals: 0 not sound, 1 sound, 2 sound and ideal.
-pub fn verdict_of(t: &[u32], best: &[usize; 256], count: usize) -> u32
+pub fn verdict_of(t: &[u32], best: &[u16; 256], count: usize) -> u32
     requires { ⌜ Formed (now t) ⌝ }
     requires { ⌜ BestPlaces (now t) (now best) ⌝ }
     requires { ⌜ count ≡ principals (membersIn (now t)) ⌝ }
@@ -82,8 +82,9 @@ pub fn verdict_of(t: &[u32], best: &[usize; 256], count: usize) -> u32
     let n = t[1] as usize;
     if ring::all_live(t, best) {
         if r < count {
-            if candidates_inside(&t[3..], r, n) {
-                if is_ideal(&t[3..], r, n) {
+            let s = words::records_of(t);
+            if candidates_inside(s, r, n) {
+                if is_ideal(s, r, n) {
                     return 2;
                 }
                 return 1;

@@ -12,16 +12,16 @@ use Rattle.audit.proofs.audit.Tie as tie
 good : (c : tie.Then1) → wellFormed (c .before .before .before .args .t .now) ≡ true
 good c = sym (c .before .well-formed .ensures) ∙ c .if1 .taken
 
-report-requires : tie.Need-report-requires
-report-requires c κs = formed _ (good c)
+audit-of-requires : tie.Need-audit-of-requires
+audit-of-requires c κs = formed _ (good c)
 
 returns : tie.Need-returns
 unfolding auditAnswer auditRefusal
-returns c = c .report .ensures ∙ rw (good (c .before))
+returns c = c .audit-of .ensures ∙ rw (good (c .before))
 
 returns-2 : tie.Need-returns-2
 unfolding auditAnswer auditRefusal
 returns-2 c = rw (sym (c .before .well-formed .ensures) ∙ c .if1 .left)
 
 pub audit-spec : {M : Type 1} → statement M
-audit-spec = tie.close (tie.spec (λ c κs. search needs) report-requires returns returns-2)
+audit-spec = tie.close (tie.spec (λ c κs. search needs) audit-of-requires returns returns-2)

@@ -45,4 +45,4 @@ returns-3 c =
 
 pub prepare-spec : {M : Type 1} → statement M
 prepare-spec =
-    tie.close (tie.spec (λ c κs. search needs) shared-slice-read-n cast-n (λ c κs. search needs) returns survey-of-requires returns-2 (λ c κs. search needs) returns-3)
+    tie.close (tie.spec (λ c κs. search needs) shared-slice-read-n cast-n (λ c κs. search needs) returns survey-of-requires returns-2 (λ c. search needs) returns-3)

@@ -35,4 +35,4 @@ returns c =
 
 pub survey-of-spec : {M : Type 1} → statement M
 survey-of-spec =
-    tie.close (tie.spec (λ c. search needs) (λ c. search needs) (λ c κs. search needs) (λ c κs. search needs) (λ c κs. search needs) (λ c κs. search needs) (λ c κs. search needs) verdict-of-requires (λ c. search needs) (λ c. search needs) (λ c. search needs) returns)
+    tie.close (tie.spec (λ c. search needs) (λ c. search needs) (λ c κs. search needs) (λ c κs. search needs) (λ c κs. search needs) (λ c κs. search needs) (λ c. search needs) verdict-of-requires (λ c. search needs) (λ c. search needs) (λ c. search needs) returns)

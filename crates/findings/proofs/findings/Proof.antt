@@ -40,9 +40,9 @@ use denote.Triple.Walked.{says, Stays, stay-none-slice, gave-slice, walkOf, goes
 use denote.Exit.{yes}
 use denote.Signature.{plain}
 use Rattle.model.specs.Table.{Member, membersIn}
-use Rattle.reply.specs.Answers.{answerOf}
-use Rattle.reply.proofs.Reply as Q
-use Rattle.reply.proofs.Reply.Laws as Q′
+use Rattle.report.specs.Answers.{answerOf}
+use Rattle.report.proofs.Report as Q
+use Rattle.report.proofs.Report.Laws as Q′
 use Rattle.finding.specs.declared.Finding.{Finding}
 use Rattle.finding.specs.declared.Survey.{Survey}
 use Rattle.finding.specs.View.{views}

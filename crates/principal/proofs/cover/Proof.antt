@@ -15,4 +15,4 @@ returns-3 : tie.Need-returns-3
 returns-3 c = let a = c .before .before .before .args in new-range (a .reach .now) (a .lo) (a .hi) (omega arith) (c .if2 .left)
 
 pub cover-spec : {M : Type 1} → statement M
-cover-spec = tie.close (tie.spec returns (λ c. search needs) (λ c. search needs) returns-2 (λ c. search needs) (λ c. search needs) returns-3)
+cover-spec = tie.close (tie.spec returns (λ c. search needs) (λ c. search needs) (λ c. search needs) returns-2 (λ c. search needs) (λ c. search needs) returns-3)

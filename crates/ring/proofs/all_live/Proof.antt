@@ -13,10 +13,10 @@ use Rattle.ring.proofs.all_live.Statement.{statement}
 use Rattle.ring.proofs.all_live.Tie as tie
 
 abbrev Inv-loop : tie.InvT-loop
-Inv-loop t best n k₀ k = (k ≤ n) × (every (hasLive (membersIn t)) (drop k (membersIn t)) ≡ every (hasLive (membersIn t)) (membersIn t))
+Inv-loop t best n none k₀ k = (k ≤ n) × (every (hasLive (membersIn t)) (drop k (membersIn t)) ≡ every (hasLive (membersIn t)) (membersIn t))
 
 abbrev μ-loop : tie.MeasureT-loop
-μ-loop t best n k₀ k = n - k
+μ-loop t best n none k₀ k = n - k
 
 -- the array's entry at the place looked at
 abbrev start : tie.In-loop Inv-loop μ-loop → tie.Start Inv-loop μ-loop
@@ -44,4 +44,4 @@ returns-2 c = let k = c .before .loop in all-end (c .before .before .before .arg
 
 pub all-live-spec : {M : Type 1} → statement M
 all-live-spec =
-    tie.close (tie.spec Inv-loop μ-loop (λ c. search needs) (λ c. search needs) (λ c. search needs) (λ c. search needs) (λ c. search needs) returns (λ c. search needs) (λ c. search needs) loop-again returns-2)
+    tie.close (tie.spec Inv-loop μ-loop (λ c. search needs) (λ c. search needs) (λ c. search needs) (λ c. search needs) (λ c. search needs) (λ c. search needs) returns (λ c. search needs) (λ c. search needs) loop-again returns-2)

@@ -1,8 +1,6 @@
 -- `best_place` meets its contract. Assumes nothing.
-use Prim.Native.Nat.{_+_, _≤_}
 use native.Mathlib.Omega.{arith}
 use borrow.Author.Needs.{needs}
-use lib.ListN.{length, getD}
 use Rattle.table.proofs.Members.{list-at, record-fits}
 use Rattle.ring.proofs.best_place.Statement.{statement}
 use Rattle.ring.proofs.best_place.Tie as tie
@@ -13,10 +11,7 @@ start o = o .before .before .before
 part-first-place-end : tie.Need-part-first-place-end
 part-first-place-end c =
     let s = start c in
-    let t = s .args .t .now in
-    let f = record-fits t (s .args .k) (c .offset .result) (s .pre .1) (c .offset .ensures .0) (s .pre .0) in
-    let h : c .offset .result + 4 + getD t 0 0 ≤ length t = omega arith in
-    h
+    omega (arith, record-fits (s .args .t .now) (s .args .k) (c .offset .result) (s .pre .1) (c .offset .ensures .0) (s .pre .0))
 
 returns : tie.Need-returns
 returns c =

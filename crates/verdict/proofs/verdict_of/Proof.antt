@@ -9,7 +9,6 @@ use lib.ListN.{getD, length-drop}
 use Rattle.model.specs.Lists.{every}
 use Rattle.model.specs.Table.{membersOf, membersIn, tableOf, ids}
 use Rattle.model.specs.Ring.{hasLive, candidateInside, principals, idealMember, ideal}
-use Rattle.laws.specs.Parts.{part-from}
 use Rattle.laws.specs.Verdicts.{verdict-ideal, verdict-sound, verdict-outside, verdict-few, verdict-cut-off}
 use Rattle.verdict.proofs.verdict_of.Statement.{statement}
 use Rattle.verdict.proofs.verdict_of.Tie as tie
@@ -21,32 +20,39 @@ lively c = sym (c .before .all-live .ensures) ∙ c .if1 .taken
 many : (c : tie.Then2) → let s = c .before .before .before .before .before .before in getD (s .args .t .now) 0 0 < principals (membersIn (s .args .t .now))
 many c = rw (c .before .before .before .before .before .before .pre .1 .1) at (c .if2 .taken)
 
-checked : (c : tie.After-candidates-inside) → let ws = c .before .before .before .before .before .before .before .before .args .t .now in c .candidates-inside .result ≡ every candidateInside (membersIn ws)
-checked c =
-    let ws = c .before .before .before .before .before .before .before .before .args .t .now in
-    c .candidates-inside .ensures ∙ ap (λ (l : List ℕ). every candidateInside (membersOf (getD ws 0 0) (getD ws 1 0) l)) (part-from 3 ws)
+abbrev start : tie.After-records-of → tie.Start
+start c = c .before .before .before .before .before .before .before
 
-judged : (c : tie.After-is-ideal) → let ws = c .before .before .before .before .before .before .before .before .before .before .before .args .t .now in c .is-ideal .result ≡ ideal (tableOf ws)
+candidates-inside-requires : tie.Need-candidates-inside-requires
+candidates-inside-requires c κs = let f = start c .pre .0 in (f .r-low, f .r-high, rw (c .records-of .ensures, length-drop) (omega (arith, f .fits)))
+
+checked : (c : tie.After-candidates-inside) → c .candidates-inside .result ≡ every candidateInside (membersIn (start (c .before) .args .t .now))
+checked c =
+    let ws = start (c .before) .args .t .now in
+    c .candidates-inside .ensures ∙ ap (λ (l : List ℕ). every candidateInside (membersOf (getD ws 0 0) (getD ws 1 0) l)) (c .before .records-of .ensures)
+
+judged : (c : tie.After-is-ideal) → c .is-ideal .result ≡ ideal (tableOf (start (c .before .before .before) .args .t .now))
 unfolding ideal
 judged c =
-    let ws = c .before .before .before .before .before .before .before .before .before .before .before .args .t .now in
-    c .is-ideal .ensures ∙ ap (λ (l : List ℕ). every (idealMember (ids (membersOf (getD ws 0 0) (getD ws 1 0) l))) (membersOf (getD ws 0 0) (getD ws 1 0) l)) (part-from 3 ws)
+    let p = c .before .before .before in
+    let ws = start p .args .t .now in
+    c .is-ideal .ensures ∙ ap (λ (l : List ℕ). every (idealMember (ids (membersOf (getD ws 0 0) (getD ws 1 0) l))) (membersOf (getD ws 0 0) (getD ws 1 0) l)) (p .records-of .ensures)
 
 is-ideal-requires : tie.Need-is-ideal-requires
 is-ideal-requires c κs =
-    let s = c .before .before .before .before .before .before .before .before .before .before in
-    let ws = s .args .t .now in
-    ((s .pre .0 .r-low, s .pre .0 .r-high, s .pre .0 .few, rw (part-from 3 ws, length-drop) (omega (arith, s .pre .0 .fits))), rw (part-from 3 ws) (s .pre .0 .rises))
+    let p = c .before .before in
+    let f = start p .pre .0 in
+    ((f .r-low, f .r-high, f .few, rw (p .records-of .ensures, length-drop) (omega (arith, f .fits))), rw (p .records-of .ensures) (f .rises))
 
 returns : tie.Need-returns
 returns c =
-    let d = c .before .before .before in
+    let d = c .before .before in
     let m = d .before .before .before in
     verdict-ideal _ (lively (m .before)) (many m) (sym (checked (d .before)) ∙ d .if3 .taken) (sym (judged (c .before)) ∙ c .if4 .taken)
 
 returns-2 : tie.Need-returns-2
 returns-2 c =
-    let d = c .before .before .before in
+    let d = c .before .before in
     let m = d .before .before .before in
     verdict-sound _ (lively (m .before)) (many m) (sym (checked (d .before)) ∙ d .if3 .taken) (sym (judged (c .before)) ∙ c .if4 .left)
 
@@ -65,4 +71,4 @@ returns-5 c = verdict-cut-off _ (sym (c .before .all-live .ensures) ∙ c .if1 .
 
 pub verdict-of-spec : {M : Type 1} → statement M
 verdict-of-spec =
-    tie.close (tie.spec (λ c. search needs) (λ c. search needs) (λ c. search needs) (λ c. search needs) (λ c κs. search needs) (λ c. search needs) (λ c. search needs) (λ c. search needs) (λ c κs. search needs) (λ c. search needs) (λ c. search needs) (λ c. search needs) is-ideal-requires returns returns-2 returns-3 returns-4 returns-5)
+    tie.close (tie.spec (λ c. search needs) (λ c. search needs) (λ c. search needs) (λ c. search needs) (λ c κs. search needs) (λ c κs. search needs) candidates-inside-requires is-ideal-requires returns returns-2 returns-3 returns-4 returns-5)
