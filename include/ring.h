@@ -9,8 +9,8 @@
    caller owes: no pointer is null, also where a count is 0; pointers to words and to findings are aligned for uint32_t; each slice has as
    many elements as its count says; slices of one call do not overlap where one of them is written; nobody else writes a slice during a call.
 
-   Answers. number is 0 and values holds the reply, unused values 0; or number is the refusal below, and then every buffer is as it was.
-   The lowest number that applies is given, but ring_new tries 11 before 10.
+   Answers. number is 0, and the first count of the values are the reply, the others 0; or number is the refusal below, and then every
+   buffer is as it was. The lowest number that applies is given, but ring_new tries 11 before 10.
 
       1  a table is not well-formed or longer than its slice
       2  the joining identifier is a member
@@ -36,13 +36,13 @@
 
       ring_new          128
       ring_join         192
-      ring_stabilize    256
+      ring_stabilize    192
       ring_rectify      192
       ring_fail         128
-      ring_leave      23808
+      ring_leave      14080
       ring_lookup       192
-      ring_audit      14592
-      ring_findings   16640
+      ring_audit       2816
+      ring_findings    3840
       ring_alike        128
       ring_take_over     64
       ring_image_write  128
@@ -66,10 +66,11 @@ extern "C" {
 #define RING_IMAGE_BYTES(r, members) (13 + (size_t)(members) * (16 + 4 * (size_t)(r)))
 #define RING_IMAGE_BYTES_MOST 12301
 
-/* What a call answers. */
+/* What a call answers: its number, and as many values as count says. */
 struct ring_answer {
     uint32_t number;
     uint32_t values[4];
+    uint32_t count;
 };
 
 /* What the audit finds of one member: whether it is a principal (1 or 0), and the moves from it to the ring: 0 on it, the member count
@@ -117,9 +118,9 @@ struct ring_answer ring_findings(const uint32_t *table, size_t words, struct rin
 /* Are two tables equal in r, members and first entries? values: 1 yes, 0 no. 1. */
 struct ring_answer ring_alike(const uint32_t *a, size_t a_words, const uint32_t *b, size_t b_words);
 
-/* The take-over choice of a shelf that holds two replies: the list of h, and that of c (empty if c timed out). values: {1, length} c's
-   list, {0, length} h's; length is that of the part to take over, from the list's first entry on, without its last entry (values[2] is its
-   high word, 0 for every list below 2^32 entries). Never refused. */
+/* The take-over choice of a shelf that holds two replies: the list of h, and that of c (empty if c timed out). values: {1, length, high}
+   c's list, {0, length, high} h's; length is that of the part to take over, from the list's first entry on, without its last entry, and
+   high its high word, 0 for every list below 2^32 entries. Never refused. */
 struct ring_answer ring_take_over(uint32_t own, uint32_t h, uint32_t c, const uint32_t *h_list, size_t h_count, const uint32_t *c_list,
                                   size_t c_count);
 

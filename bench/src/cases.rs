@@ -1,8 +1,8 @@
 //! What is measured: a call, the buffers that it is made on, and the answer that it must give.
 
-use crate::same::Answer;
 #[cfg(feature = "whole")]
 use crate::same::Finding;
+use crate::same::{answer, Answer};
 use crate::{library, same};
 use std::hint::black_box;
 
@@ -78,10 +78,6 @@ pub struct Case {
     pub expected: Answer,
 }
 
-fn answer(number: u32, values: [u32; 4]) -> Answer {
-    Answer { number, values }
-}
-
 /// Rising identifiers, spread over the whole space by a fixed generator.
 fn identifiers(count: usize) -> Vec<u32> {
     let mut state = 1u32;
@@ -103,41 +99,41 @@ impl Case {
         let ids = identifiers(count);
         let mut table = vec![0; WORDS];
         let made = same::new(&mut table, r, &ids);
-        assert_eq!(made, answer(0, [count as u32, 0, 0, 0]));
+        assert_eq!(made, answer(0, [count as u32]));
         let width = r as usize + 4;
         let at = |k: usize| 3 + k * width;
         let n = count as u32;
         let (mut x, mut y) = (ids[100], 0);
         let expected = match call {
-            Call::New => answer(0, [n, 0, 0, 0]),
+            Call::New => answer(0, [n]),
             Call::JoinFail => {
                 (x, y) = (ids[127] + 1, ids[127]);
-                answer(0, [n, 0, 0, 0])
+                answer(0, [n])
             }
-            Call::StabilizeDone => answer(0, [2, ids[101], 0, 0]),
+            Call::StabilizeDone => answer(0, [2, ids[101]]),
             Call::StabilizeAgain => {
                 // A list of r dead entries: each step drops one and appends another.
                 for i in 0..r {
                     table[at(100) + 4 + i as usize] = x + 1 + i;
                 }
-                answer(0, [0, 0, 0, 0])
+                answer(0, [0])
             }
             Call::RectifySame => {
                 y = ids[99];
-                answer(0, [0, 0, 0, 0])
+                answer(0, [0])
             }
             Call::RectifyNew => {
                 // A dead predecessor that notifies: it is written each time.
                 y = ids[99] + 1;
                 table[at(100) + 1] = y;
-                answer(0, [1, 0, 0, 0])
+                answer(0, [1])
             }
             Call::Leave6 => {
                 // The list of the last member has one live entry, the member that would leave.
                 for i in 0..r {
                     table[at(MEMBERS - 1) + 4 + i as usize] = x + i;
                 }
-                answer(6, [0; 4])
+                answer(6, [])
             }
             Call::Leave7 => {
                 // The lowest member's list skips all but the highest r, so r + 1 are principals.
@@ -146,22 +142,22 @@ impl Case {
                     table[at(0) + 4 + i] = ids[first + i];
                 }
                 x = ids[MEMBERS - 1];
-                answer(7, [0; 4])
+                answer(7, [])
             }
-            Call::LeaveOk => answer(0, [n - 1, 0, 0, 0]),
+            Call::LeaveOk => answer(0, [n - 1]),
             Call::Lookup => {
                 y = x;
-                answer(0, [x, ids[99], n - 1, 0])
+                answer(0, [x, ids[99], n - 1])
             }
             Call::Audit => answer(0, [n, n, n, 2]),
-            Call::Alike => answer(0, [1, 0, 0, 0]),
+            Call::Alike => answer(0, [1]),
             #[cfg(feature = "whole")]
             Call::Findings => answer(0, [n, n, n, 2]),
             #[cfg(feature = "whole")]
-            Call::ImageWrite => answer(0, [13 + n * (16 + 4 * r), 0, 0, 0]),
+            Call::ImageWrite => answer(0, [13 + n * (16 + 4 * r)]),
             #[cfg(feature = "whole")]
-            Call::ImageRead => answer(0, [n, 0, 0, 0]),
-            Call::Restore => answer(0, [0; 4]),
+            Call::ImageRead => answer(0, [n]),
+            Call::Restore => answer(0, []),
         };
         #[cfg(feature = "whole")]
         let image = {

@@ -13,12 +13,13 @@ const HEADER: usize = 3;
 const MEMBERS_MOST: usize = 256;
 const WORDS_MOST: usize = HEADER + MEMBERS_MOST * 12;
 
-/// What a call answers: number 0 and the reply's values, or the number that declines it.
+/// What a call answers: number 0 and the reply's values, of which there are `count`, or the number that declines it.
 #[repr(C)]
 #[derive(Clone, Copy, Debug, Default, PartialEq, Eq)]
 pub struct Answer {
     pub number: u32,
     pub values: [u32; 4],
+    pub count: u32,
 }
 
 /// What the audit finds of one member.
@@ -31,15 +32,22 @@ pub struct Finding {
     pub moves: u32,
 }
 
-fn reply(values: [u32; 4]) -> Answer {
-    Answer { number: 0, values }
+pub fn answer<const COUNT: usize>(number: u32, said: [u32; COUNT]) -> Answer {
+    let mut values = [0; 4];
+    values[..COUNT].copy_from_slice(&said);
+    Answer {
+        number,
+        values,
+        count: COUNT as u32,
+    }
+}
+
+fn reply<const COUNT: usize>(values: [u32; COUNT]) -> Answer {
+    answer(0, values)
 }
 
 fn declined(number: u32) -> Answer {
-    Answer {
-        number,
-        values: [0; 4],
-    }
+    answer(number, [])
 }
 
 #[inline]
@@ -221,16 +229,16 @@ impl<'a> Table<'a> {
     }
 
     /// The places of all best successors; the member count where there is none.
-    fn best_places(&self) -> [usize; MEMBERS_MOST] {
+    fn best_places(&self) -> [u16; MEMBERS_MOST] {
         let mut places = [0; MEMBERS_MOST];
         for (k, place) in places[..self.members].iter_mut().enumerate() {
-            *place = self.best_place(k).unwrap_or(self.members);
+            *place = self.best_place(k).unwrap_or(self.members) as u16;
         }
         places
     }
 
     /// By place, how far the ranges of members reach that some list skips from there on.
-    fn skipped(&self) -> [usize; MEMBERS_MOST] {
+    fn skipped(&self) -> [u16; MEMBERS_MOST] {
         let mut reach = [0; MEMBERS_MOST];
         for (k, record) in self.records().enumerate() {
             let (mut q, mut low) = (record[0], k + 1);
@@ -249,14 +257,13 @@ impl<'a> Table<'a> {
         reach
     }
 
-    /// By place: 1 for a principal, else 0.
-    fn principal_bits(&self) -> [u32; MEMBERS_MOST] {
-        let reach = self.skipped();
-        let mut bits = [0; MEMBERS_MOST];
+    /// By place: 1 for a principal, else 0, in the place of the reach that was read there.
+    fn principal_bits(&self) -> [u16; MEMBERS_MOST] {
+        let mut bits = self.skipped();
         let mut top = 0;
-        for (k, (bit, &to)) in bits.iter_mut().zip(&reach).take(self.members).enumerate() {
-            top = to.max(top);
-            *bit = u32::from(top <= k);
+        for (k, bit) in bits.iter_mut().take(self.members).enumerate() {
+            top = top.max(*bit);
+            *bit = u16::from(top <= k as u16);
         }
         bits
     }
@@ -266,8 +273,8 @@ impl<'a> Table<'a> {
     }
 
     /// 0 not sound, 1 sound, 2 sound and ideal.
-    fn verdict(&self, best: &[usize], principals: usize) -> u32 {
-        let sound = best.iter().all(|&b| b < self.members)
+    fn verdict(&self, best: &[u16], principals: usize) -> u32 {
+        let sound = best.iter().all(|&b| usize::from(b) < self.members)
             && principals > self.r
             && self.records().all(candidate_inside);
         if !sound {
@@ -296,15 +303,15 @@ impl<'a> Table<'a> {
     }
 }
 
-fn count_of(numbers: &[u32], v: u32) -> usize {
+fn count_of(numbers: &[u16], v: u16) -> usize {
     numbers.iter().filter(|&&x| x == v).count()
 }
 
 /// The members from place low to below high are marked.
 #[inline]
-fn cover(reach: &mut [usize; MEMBERS_MOST], low: usize, high: usize) {
+fn cover(reach: &mut [u16; MEMBERS_MOST], low: usize, high: usize) {
     if low < high {
-        reach[low] = reach[low].max(high);
+        reach[low] = reach[low].max(high as u16);
     }
 }
 
@@ -313,16 +320,16 @@ fn candidate_inside(record: &[u32]) -> bool {
 }
 
 /// By place, where the moves of an array made twice lead; the member count stands for none and stays.
-fn doubled(moves: &[usize], members: usize) -> [usize; MEMBERS_MOST] {
+fn doubled(moves: &[u16], members: usize) -> [u16; MEMBERS_MOST] {
     let mut twice = [0; MEMBERS_MOST];
     for (to, &j) in twice.iter_mut().zip(moves) {
-        *to = moves.get(j).copied().unwrap_or(members);
+        *to = moves.get(usize::from(j)).copied().unwrap_or(members as u16);
     }
     twice
 }
 
 /// By place: 1 for a member on the ring, else 0. On it are those that as many moves lead to as there are members, or more.
-fn ring_bits(best: &[usize]) -> [u32; MEMBERS_MOST] {
+fn ring_bits(best: &[u16]) -> [u16; MEMBERS_MOST] {
     let members = best.len();
     let mut far = doubled(best, members);
     let mut moves = 2;
@@ -332,8 +339,8 @@ fn ring_bits(best: &[usize]) -> [u32; MEMBERS_MOST] {
     }
     let mut bits = [0; MEMBERS_MOST];
     for &j in &far[..members] {
-        if j < members {
-            bits[j] = 1;
+        if usize::from(j) < members {
+            bits[usize::from(j)] = 1;
         }
     }
     bits

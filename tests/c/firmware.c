@@ -8,13 +8,14 @@
 
 static int checks, wrong;
 
-static void expect(const char *what, struct ring_answer a, uint32_t number, uint32_t v0, uint32_t v1, uint32_t v2, uint32_t v3)
+/* The number, how many values there are, and all four. */
+static void expect(const char *what, struct ring_answer a, uint32_t number, uint32_t count, uint32_t v0, uint32_t v1, uint32_t v2, uint32_t v3)
 {
     const uint32_t v[4] = {v0, v1, v2, v3};
     checks++;
-    if (a.number != number || memcmp(a.values, v, sizeof v) != 0) {
-        printf("%s: %u {%u, %u, %u, %u}, not %u {%u, %u, %u, %u}\n", what, a.number, a.values[0], a.values[1], a.values[2], a.values[3], number, v0,
-               v1, v2, v3);
+    if (a.number != number || a.count != count || memcmp(a.values, v, sizeof v) != 0) {
+        printf("%s: %u, %u of {%u, %u, %u, %u}, not %u, %u of {%u, %u, %u, %u}\n", what, a.number, a.count, a.values[0], a.values[1], a.values[2],
+               a.values[3], number, count, v0, v1, v2, v3);
         wrong++;
     }
 }
@@ -66,88 +67,88 @@ int main(void)
     struct ring_answer a;
     size_t i, bytes, at, late = 0;
 
-    expect_true("sizes", sizeof(struct ring_answer) == 20 && sizeof(struct ring_finding) == 12);
+    expect_true("sizes", sizeof(struct ring_answer) == 24 && sizeof(struct ring_finding) == 12);
 
     /* Document 01's session. */
-    expect("new", ring_new(table, words, 2, ids, 4), 0, 4, 0, 0, 0);
-    expect("join", ring_join(table, words, 25, 20), 0, 5, 0, 0, 0);
-    expect("stabilize 25", ring_stabilize(table, words, 25), 0, 2, 30, 0, 0);
-    expect("rectify 30", ring_rectify(table, words, 30, 25), 0, 1, 0, 0, 0);
-    expect("stabilize 20", ring_stabilize(table, words, 20), 0, 1, 25, 0, 0);
-    expect("stabilize 20 again", ring_stabilize(table, words, 20), 0, 2, 25, 0, 0);
-    expect("audit", ring_audit(table, words), 0, 5, 4, 5, 2);
-    expect("join a member", ring_join(table, words, 30, 20), 2, 0, 0, 0, 0);
-    expect("leave 10", ring_leave(table, words, 10), 0, 4, 0, 0, 0);
+    expect("new", ring_new(table, words, 2, ids, 4), 0, 1, 4, 0, 0, 0);
+    expect("join", ring_join(table, words, 25, 20), 0, 1, 5, 0, 0, 0);
+    expect("stabilize 25", ring_stabilize(table, words, 25), 0, 2, 2, 30, 0, 0);
+    expect("rectify 30", ring_rectify(table, words, 30, 25), 0, 1, 1, 0, 0, 0);
+    expect("stabilize 20", ring_stabilize(table, words, 20), 0, 2, 1, 25, 0, 0);
+    expect("stabilize 20 again", ring_stabilize(table, words, 20), 0, 2, 2, 25, 0, 0);
+    expect("audit", ring_audit(table, words), 0, 4, 5, 4, 5, 2);
+    expect("join a member", ring_join(table, words, 30, 20), 2, 0, 0, 0, 0, 0);
+    expect("leave 10", ring_leave(table, words, 10), 0, 1, 4, 0, 0, 0);
     memcpy(kept, table, sizeof kept);
-    expect("leave 20", ring_leave(table, words, 20), 6, 0, 0, 0, 0);
+    expect("leave 20", ring_leave(table, words, 20), 6, 0, 0, 0, 0, 0);
     expect_true("a refusal writes nothing", memcmp(kept, table, sizeof kept) == 0);
-    expect("stabilize 40", ring_stabilize(table, words, 40), 0, 0, 0, 0, 0);
-    expect("lookup", ring_lookup(table, words, 30, 15), 0, 20, 40, 1, 0);
+    expect("stabilize 40", ring_stabilize(table, words, 40), 0, 1, 0, 0, 0, 0);
+    expect("lookup", ring_lookup(table, words, 30, 15), 0, 3, 20, 40, 1, 0);
 
     /* Churn: shelves join one after the other, and the ring settles; two rounds more bring the second entries up to date. */
     for (i = 0; i < 100; i++) ring_join(table, words, 1000 + 7 * (uint32_t)i, i == 0 ? 40 : 1000 + 7 * ((uint32_t)i - 1));
     for (i = 0; i < 1000 && ring_audit(table, words).values[3] != 2; i++)
-        for (at = 0; at < table[1]; at++) late += round_of(table, words, table[3 + at * 6]) == 0;
+        for (at = 0; at < table[1]; at++) late += round_of(table, words, table[RING_TABLE_WORDS(2, at)]) == 0;
     for (i = 0; i < 2; i++)
-        for (at = 0; at < table[1]; at++) late += round_of(table, words, table[3 + at * 6]) == 0;
+        for (at = 0; at < table[1]; at++) late += round_of(table, words, table[RING_TABLE_WORDS(2, at)]) == 0;
     expect_true("done within r + 1 steps", late == 0);
-    expect("settled", ring_audit(table, words), 0, 104, 104, 104, 2);
+    expect("settled", ring_audit(table, words), 0, 4, 104, 104, 104, 2);
 
     /* Saved, looked at field by field, and restored. */
     a = ring_image_write(table, words, image, sizeof image);
     bytes = RING_IMAGE_BYTES(2, 104);
-    expect("image", a, 0, (uint32_t)bytes, 0, 0, 0);
-    expect("image too short", ring_image_write(table, words, image, bytes - 1), 10, 0, 0, 0, 0);
-    expect("first field", ring_image_field(image, bytes, 0), 0, 1, 3, 7, 10);
+    expect("image", a, 0, 1, (uint32_t)bytes, 0, 0, 0);
+    expect("image too short", ring_image_write(table, words, image, bytes - 1), 10, 0, 0, 0, 0, 0);
+    expect("first field", ring_image_field(image, bytes, 0), 0, 4, 1, 3, 7, 10);
     for (at = 0, i = 0; (a = ring_image_field(image, bytes, at)).number == 0; i++) at = a.values[3];
     expect_true("fields", i == 106 && at == bytes);
-    expect("no field is due", ring_image_field(image, bytes, 11), 9, 0, 0, 0, 0);
-    expect("restored", ring_image_read(other, words, image, bytes), 0, 104, 0, 0, 0);
-    expect("alike", ring_alike(table, words, other, words), 0, 1, 0, 0, 0);
+    expect("no field is due", ring_image_field(image, bytes, 11), 9, 0, 0, 0, 0, 0);
+    expect("restored", ring_image_read(other, words, image, bytes), 0, 1, 104, 0, 0, 0);
+    expect("alike", ring_alike(table, words, other, words), 0, 1, 1, 0, 0, 0);
     expect_true("the same words", memcmp(table, other, RING_TABLE_WORDS(2, 104) * 4) == 0);
-    expect("cut short", ring_image_read(other, words, image, bytes - 1), 9, 0, 0, 0, 0);
+    expect("cut short", ring_image_read(other, words, image, bytes - 1), 9, 0, 0, 0, 0, 0);
 
     /* A loss, and what the audit finds. */
-    expect("fail", ring_fail(other, words, 25), 0, 103, 0, 0, 0);
-    expect("unlike", ring_alike(table, words, other, words), 0, 0, 0, 0, 0);
+    expect("fail", ring_fail(other, words, 25), 0, 1, 103, 0, 0, 0);
+    expect("unlike", ring_alike(table, words, other, words), 0, 1, 0, 0, 0, 0);
     a = ring_findings(table, words, findings, 256);
-    expect("findings", a, 0, 104, 104, 104, 2);
+    expect("findings", a, 0, 4, 104, 104, 104, 2);
     expect_true("the first finding", findings[0].id == 20 && findings[0].principal == 1 && findings[0].moves == 0);
-    expect("findings too short", ring_findings(table, words, findings, 103), 10, 0, 0, 0, 0);
+    expect("findings too short", ring_findings(table, words, findings, 103), 10, 0, 0, 0, 0, 0);
 
     /* The take-over choice. */
     {
         const uint32_t h_list[] = {30, 40, 10}, c_list[] = {25, 30};
-        expect("take over c", ring_take_over(20, 30, 25, h_list, 3, c_list, 2), 0, 1, 1, 0, 0);
-        expect("take over h", ring_take_over(20, 30, 35, h_list, 3, c_list, 2), 0, 0, 2, 0, 0);
-        expect("c timed out", ring_take_over(20, 30, 25, h_list, 3, c_list, 0), 0, 0, 2, 0, 0);
+        expect("take over c", ring_take_over(20, 30, 25, h_list, 3, c_list, 2), 0, 3, 1, 1, 0, 0);
+        expect("take over h", ring_take_over(20, 30, 35, h_list, 3, c_list, 2), 0, 3, 0, 2, 0, 0);
+        expect("c timed out", ring_take_over(20, 30, 25, h_list, 3, c_list, 0), 0, 3, 0, 2, 0, 0);
     }
 
     /* On a table that is not sound only the identifiers bound the agains. */
     expect_true("again until the member itself", agains(other, words, 100000) == 100000);
-    expect("not sound", ring_audit(other, words), 0, 1, 1, 1, 0);
+    expect("not sound", ring_audit(other, words), 0, 4, 1, 1, 1, 0);
 
     /* A loss that no withdrawal would have been granted: the audit right after it says 0. */
     ring_new(other, words, 2, ids, 3);
-    expect("leave is not granted", ring_leave(other, words, 20), 7, 0, 0, 0, 0);
-    expect("the loss happens all the same", ring_fail(other, words, 20), 0, 2, 0, 0, 0);
-    expect("and the verdict is 0", ring_audit(other, words), 0, 2, 2, 2, 0);
+    expect("leave is not granted", ring_leave(other, words, 20), 7, 0, 0, 0, 0, 0);
+    expect("the loss happens all the same", ring_fail(other, words, 20), 0, 1, 2, 0, 0, 0);
+    expect("and the verdict is 0", ring_audit(other, words), 0, 4, 2, 2, 2, 0);
 
     /* The image of two rings, 10 and 30, 20 and 40, is the writing of a well-formed table. It is read, and the audit says 0. */
     {
         const uint32_t two[] = {1, 4, 0, 10, 30, 0, 0, 30, 20, 40, 0, 0, 40, 30, 10, 0, 0, 10, 40, 20, 0, 0, 20};
         memcpy(other, two, sizeof two);
-        expect("an image of two rings", ring_image_write(other, words, image, sizeof image), 0, RING_IMAGE_BYTES(1, 4), 0, 0, 0);
-        expect("is read", ring_image_read(other, words, image, RING_IMAGE_BYTES(1, 4)), 0, 4, 0, 0, 0);
-        expect("and not sound", ring_audit(other, words), 0, 4, 0, 4, 0);
+        expect("an image of two rings", ring_image_write(other, words, image, sizeof image), 0, 1, RING_IMAGE_BYTES(1, 4), 0, 0, 0);
+        expect("is read", ring_image_read(other, words, image, RING_IMAGE_BYTES(1, 4)), 0, 1, 4, 0, 0, 0);
+        expect("and not sound", ring_audit(other, words), 0, 4, 4, 0, 4, 0);
     }
 
     /* Refusals. */
-    expect("no table", ring_audit(table, 2), 1, 0, 0, 0, 0);
-    expect("no member", ring_stabilize(table, words, 11), 3, 0, 0, 0, 0);
-    expect("not between", ring_join(table, words, 50, 20), 4, 0, 0, 0, 0);
-    expect("two are too few", ring_new(other, words, 2, ids, 2), 11, 0, 0, 0, 0);
-    expect("too short", ring_new(other, 20, 2, ids, 4), 10, 0, 0, 0, 0);
+    expect("no table", ring_audit(table, 2), 1, 0, 0, 0, 0, 0);
+    expect("no member", ring_stabilize(table, words, 11), 3, 0, 0, 0, 0, 0);
+    expect("not between", ring_join(table, words, 50, 20), 4, 0, 0, 0, 0, 0);
+    expect("two are too few", ring_new(other, words, 2, ids, 2), 11, 0, 0, 0, 0, 0);
+    expect("too short", ring_new(other, 20, 2, ids, 4), 10, 0, 0, 0, 0, 0);
 
     printf("firmware: %d checks, %d wrong\n", checks, wrong);
     return wrong != 0;

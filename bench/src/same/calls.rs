@@ -31,7 +31,7 @@ pub fn new(words: &mut [u32], r: u32, ids: &[u32]) -> Answer {
         front.copy_from_slice(&ids[k + 1..]);
         back.copy_from_slice(&ids[..back.len()]);
     }
-    reply([members as u32, 0, 0, 0])
+    reply([members as u32])
 }
 
 #[inline(never)]
@@ -62,7 +62,7 @@ pub fn join(words: &mut [u32], j: u32, p: u32) -> Answer {
     words.copy_within(at..end, at + width);
     joiner.write(&mut words[at..at + width]);
     words[1] += 1;
-    reply([words[1], 0, 0, 0])
+    reply([words[1]])
 }
 
 #[inline(never)]
@@ -75,31 +75,31 @@ pub fn stabilize(words: &mut [u32], n: u32) -> Answer {
     };
     let member = Member::read(t.record(k));
     let head = member.successors[0];
-    let (member, answer) = if member.pending == 1 {
+    let (member, said) = if member.pending == 1 {
         let c = member.candidate;
         match t.place(c) {
             Some(s) => {
                 let list = Member::read(t.record(s)).successors;
-                (member.adopt(c, &list).clear_pending(), [2, c, 0, 0])
+                (member.adopt(c, &list).clear_pending(), reply([2, c]))
             }
-            None => (member.clear_pending(), [2, head, 0, 0]),
+            None => (member.clear_pending(), reply([2, head])),
         }
     } else if let Some(s) = t.place(head) {
         let successor = Member::read(t.record(s));
         let c = successor.predecessor;
         let adopted = member.adopt(head, &successor.successors);
         if between(n, c, head) {
-            (adopted.await_candidate(c), [1, c, 0, 0])
+            (adopted.await_candidate(c), reply([1, c]))
         } else {
-            (adopted, [2, head, 0, 0])
+            (adopted, reply([2, head]))
         }
     } else {
-        (member.drop_head(t.r), [0, 0, 0, 0])
+        (member.drop_head(t.r), reply([0]))
     };
     let (at, width) = (t.offset(k), t.width);
     member.write(&mut words[at..at + width]);
     words[2] = words[2].saturating_add(1);
-    reply(answer)
+    said
 }
 
 #[inline(never)]
@@ -114,9 +114,9 @@ pub fn rectify(words: &mut [u32], n: u32, q: u32) -> Answer {
     if between(predecessor, q, n) || t.place(predecessor).is_none() {
         let at = t.offset(k);
         words[at + 1] = q;
-        reply([1, 0, 0, 0])
+        reply([1])
     } else {
-        reply([0, 0, 0, 0])
+        reply([0])
     }
 }
 
@@ -130,7 +130,7 @@ pub fn fail(words: &mut [u32], n: u32) -> Answer {
     };
     let (at, end, width) = (t.offset(k), t.offset(t.members), t.width);
     remove(words, at, end, width);
-    reply([words[1], 0, 0, 0])
+    reply([words[1]])
 }
 
 #[inline(never)]
@@ -152,14 +152,14 @@ pub fn leave(words: &mut [u32], n: u32) -> Answer {
         width,
         records: &copy[HEADER..end - width],
     };
-    if left.best_places()[..members].contains(&members) {
+    if left.best_places()[..members].contains(&(members as u16)) {
         return declined(6);
     }
     if left.count_principals() <= r {
         return declined(7);
     }
     remove(words, at, end, width);
-    reply([words[1], 0, 0, 0])
+    reply([words[1]])
 }
 
 #[inline(never)]
@@ -174,21 +174,15 @@ pub fn lookup(words: &[u32], n: u32, k: u32) -> Answer {
     for moves in 0..t.members as u32 {
         let q = t.id(at);
         let Some(next) = t.best_place(at) else {
-            return Answer {
-                number: 8,
-                values: [q, 0, 0, 0],
-            };
+            return answer(8, [q]);
         };
         at = next;
         let b = t.id(at);
         if k == b || between(q, k, b) {
-            return reply([b, q, moves, 0]);
+            return reply([b, q, moves]);
         }
     }
-    Answer {
-        number: 8,
-        values: [t.id(at), 0, 0, 0],
-    }
+    answer(8, [t.id(at)])
 }
 
 #[inline(never)]
@@ -214,7 +208,7 @@ pub fn alike(a: &[u32], b: &[u32]) -> Answer {
         && a.records()
             .zip(b.records())
             .all(|(x, y)| x[0] == y[0] && x[4] == y[4]);
-    reply([u32::from(alike), 0, 0, 0])
+    reply([u32::from(alike)])
 }
 
 #[cfg(feature = "whole")]
@@ -229,27 +223,27 @@ mod whole {
 
     /// One more than the moves to the ring from each place, where at first only the places on it are known: each is found once.
     /// The member count where a walk never comes there.
-    fn settle(best: &[usize], known: &mut [u32], k: usize) {
+    fn settle(best: &[u16], known: &mut [u16], k: usize) {
         if known[k] > 0 {
             return;
         }
         let (mut at, mut steps, mut value) = (k, 0, best.len());
         while steps < best.len() {
-            at = best[at];
+            at = usize::from(best[at]);
             steps += 1;
             match known.get(at) {
                 None => break,
                 Some(0) => (),
                 Some(&v) => {
-                    value = v as usize - 1;
+                    value = usize::from(v) - 1;
                     break;
                 }
             }
         }
         at = k;
         for left in (1..=steps).rev() {
-            known[at] = (value + left).min(best.len()) as u32 + 1;
-            at = best[at];
+            known[at] = (value + left).min(best.len()) as u16 + 1;
+            at = usize::from(best[at]);
         }
     }
 
@@ -271,8 +265,8 @@ mod whole {
             settle(best, known, k);
             *finding = Finding {
                 id: record[0],
-                principal: principal[k],
-                moves: known[k] - 1,
+                principal: u32::from(principal[k]),
+                moves: u32::from(known[k] - 1),
             };
         }
         let principals = findings.iter().filter(|f| f.principal == 1).count();
@@ -327,7 +321,7 @@ mod whole {
             }
         }
         last.copy_from_slice(&[3, 0, 0]);
-        reply([size as u32, 0, 0, 0])
+        reply([size as u32])
     }
 
     /// r and the member count, if the bytes are the writing of a well-formed table.
@@ -377,6 +371,6 @@ mod whole {
                 *word = u32::from_be_bytes(bytes.try_into().unwrap());
             }
         }
-        reply([members as u32, 0, 0, 0])
+        reply([members as u32])
     }
 }

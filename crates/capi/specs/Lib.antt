@@ -1,2 +1,2 @@
 -- What the exports' contracts cite besides the model.
-pub mod Packed
+pub mod TakeOver

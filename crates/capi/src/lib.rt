@@ -3,88 +3,17 @@ ghost use mathlib.Core.Path.{_≡_};
 ghost use Rattle.model.specs.Calls.{joinAnswer, joinWords, stabilizeAnswer, stabilizeWords, rectifyAnswer, rectifyWords, failAnswer, failWords, leaveAnswer, leaveWords, lookupAnswer, auditAnswer, newAnswer, newWords, alikeAnswer, writeAnswer, writeBytes, readAnswer, readWords, findingsAnswer, findingsAfter};
 ghost use Rattle.model.specs.Image.{fieldAt};
 ghost use Rattle.finding.specs.View.{views};
-ghost use Rattle.reply.specs.Answers.{answerOf};
-ghost use Rattle.capi.specs.Packed.{packed, takeOverAnswer};
+ghost use Rattle.answer.specs.Packed.{packed};
+ghost use Rattle.capi.specs.TakeOver.{takeOverAnswer};
+use answer::Answer;
 use finding::Finding;
-use reply::Reply;
-
-// Number 0 or the refusal; the values as document 01 lists them, unused ones 0; 8 has its member in values[0].
-#[repr(C)]
-pub struct Answer {
-    pub number: u32,
-    pub values: [u32; 4],
-}
-
-// A reply in numbers.
-fn numbers(a: Reply) -> Answer
-    ensures { λ r. ⌜ r ≡ packed (answerOf a) ⌝ }
-{
-    match a {
-        Reply::Members(n) => Answer {
-            number: 0,
-            values: [n, 0, 0, 0],
-        },
-        Reply::Bytes(n) => Answer {
-            number: 0,
-            values: [n, 0, 0, 0],
-        },
-        Reply::Field(tag, start, size, next) => Answer {
-            number: 0,
-            values: [tag, start, size, next],
-        },
-        Reply::Again => Answer {
-            number: 0,
-            values: [0, 0, 0, 0],
-        },
-        Reply::Look(c) => Answer {
-            number: 0,
-            values: [1, c, 0, 0],
-        },
-        Reply::Done(h) => Answer {
-            number: 0,
-            values: [2, h, 0, 0],
-        },
-        Reply::New => Answer {
-            number: 0,
-            values: [1, 0, 0, 0],
-        },
-        Reply::Same => Answer {
-            number: 0,
-            values: [0, 0, 0, 0],
-        },
-        Reply::Owner(b, q, moves) => Answer {
-            number: 0,
-            values: [b, q, moves, 0],
-        },
-        Reply::Report(members, principals, ring, verdict) => Answer {
-            number: 0,
-            values: [members, principals, ring, verdict],
-        },
-        Reply::Yes => Answer {
-            number: 0,
-            values: [1, 0, 0, 0],
-        },
-        Reply::No => Answer {
-            number: 0,
-            values: [0, 0, 0, 0],
-        },
-        Reply::Stuck(q) => Answer {
-            number: 8,
-            values: [q, 0, 0, 0],
-        },
-        Reply::Declined(k) => Answer {
-            number: k,
-            values: [0, 0, 0, 0],
-        },
-    }
-}
 
 // Join j by p.
 #[no_mangle]
 pub extern "C" fn ring_join(table: &mut [u32], j: u32, p: u32) -> Answer
     ensures { λ a. ⌜ (a ≡ packed (joinAnswer (now (table .entry)) j p)) × (now (table .exit) ≡ joinWords (now (table .entry)) j p) ⌝ }
 {
-    numbers(join::join(table, j, p))
+    count::numbers(join::join(table, j, p))
 }
 
 // One stabilize step of n.
@@ -92,7 +21,7 @@ pub extern "C" fn ring_join(table: &mut [u32], j: u32, p: u32) -> Answer
 pub extern "C" fn ring_stabilize(table: &mut [u32], n: u32) -> Answer
     ensures { λ a. ⌜ (a ≡ packed (stabilizeAnswer (now (table .entry)) n)) × (now (table .exit) ≡ stabilizeWords (now (table .entry)) n) ⌝ }
 {
-    numbers(stabilize::stabilize(table, n))
+    step::numbers(stabilize::stabilize(table, n))
 }
 
 // n rectifies with a notice from q.
@@ -100,7 +29,7 @@ pub extern "C" fn ring_stabilize(table: &mut [u32], n: u32) -> Answer
 pub extern "C" fn ring_rectify(table: &mut [u32], n: u32, q: u32) -> Answer
     ensures { λ a. ⌜ (a ≡ packed (rectifyAnswer (now (table .entry)) n q)) × (now (table .exit) ≡ rectifyWords (now (table .entry)) n q) ⌝ }
 {
-    numbers(rectify::rectify(table, n, q))
+    notice::numbers(rectify::rectify(table, n, q))
 }
 
 // Loss of n.
@@ -108,7 +37,7 @@ pub extern "C" fn ring_rectify(table: &mut [u32], n: u32, q: u32) -> Answer
 pub extern "C" fn ring_fail(table: &mut [u32], n: u32) -> Answer
     ensures { λ a. ⌜ (a ≡ packed (failAnswer (now (table .entry)) n)) × (now (table .exit) ≡ failWords (now (table .entry)) n) ⌝ }
 {
-    numbers(depart::fail(table, n))
+    count::numbers(depart::fail(table, n))
 }
 
 // Withdrawal of n.
@@ -116,7 +45,7 @@ pub extern "C" fn ring_fail(table: &mut [u32], n: u32) -> Answer
 pub extern "C" fn ring_leave(table: &mut [u32], n: u32) -> Answer
     ensures { λ a. ⌜ (a ≡ packed (leaveAnswer (now (table .entry)) n)) × (now (table .exit) ≡ leaveWords (now (table .entry)) n) ⌝ }
 {
-    numbers(depart::leave(table, n))
+    count::numbers(depart::leave(table, n))
 }
 
 // Find key k from the member n.
@@ -124,7 +53,7 @@ pub extern "C" fn ring_leave(table: &mut [u32], n: u32) -> Answer
 pub extern "C" fn ring_lookup(table: &[u32], n: u32, k: u32) -> Answer
     ensures { λ a. ⌜ a ≡ packed (lookupAnswer (now (table .entry)) n k) ⌝ }
 {
-    numbers(lookup::lookup(table, n, k))
+    owner::numbers(lookup::lookup(table, n, k))
 }
 
 // Audit.
@@ -132,7 +61,7 @@ pub extern "C" fn ring_lookup(table: &[u32], n: u32, k: u32) -> Answer
 pub extern "C" fn ring_audit(table: &[u32]) -> Answer
     ensures { λ a. ⌜ a ≡ packed (auditAnswer (now (table .entry))) ⌝ }
 {
-    numbers(audit::audit(table))
+    report::numbers(audit::audit(table))
 }
 
 // The new table of r and rising identifiers.
@@ -140,7 +69,7 @@ pub extern "C" fn ring_audit(table: &[u32]) -> Answer
 pub extern "C" fn ring_new(table: &mut [u32], r: u32, ids: &[u32]) -> Answer
     ensures { λ a. ⌜ (a ≡ packed (newAnswer (now (table .entry)) r (now (ids .entry)))) × (now (table .exit) ≡ newWords (now (table .entry)) r (now (ids .entry))) ⌝ }
 {
-    numbers(start::new(table, r, ids))
+    count::numbers(start::new(table, r, ids))
 }
 
 // Are two tables alike?
@@ -148,7 +77,7 @@ pub extern "C" fn ring_new(table: &mut [u32], r: u32, ids: &[u32]) -> Answer
 pub extern "C" fn ring_alike(a: &[u32], b: &[u32]) -> Answer
     ensures { λ r. ⌜ r ≡ packed (alikeAnswer (now (a .entry)) (now (b .entry))) ⌝ }
 {
-    numbers(alike::alike(a, b))
+    yes_no::numbers(alike::alike(a, b))
 }
 
 // Which of two replies' lists to take over: 1 for c's and 0 for h's, and the length of its part.
@@ -170,11 +99,13 @@ pub extern "C" fn ring_take_over<'a>(
         return Answer {
             number: 0,
             values: [1, low, high, 0],
+            count: 3,
         };
     }
     Answer {
         number: 0,
         values: [0, low, high, 0],
+        count: 3,
     }
 }
 
@@ -183,7 +114,7 @@ pub extern "C" fn ring_take_over<'a>(
 pub extern "C" fn ring_image_write(table: &[u32], image: &mut [u8]) -> Answer
     ensures { λ a. ⌜ (a ≡ packed (writeAnswer (now (table .entry)) (now (image .entry)))) × (now (image .exit) ≡ writeBytes (now (table .entry)) (now (image .entry))) ⌝ }
 {
-    numbers(image::write(table, image))
+    written::numbers(image::write(table, image))
 }
 
 // Reads a whole image into a slice.
@@ -191,7 +122,7 @@ pub extern "C" fn ring_image_write(table: &[u32], image: &mut [u8]) -> Answer
 pub extern "C" fn ring_image_read(table: &mut [u32], image: &[u8]) -> Answer
     ensures { λ a. ⌜ (a ≡ packed (readAnswer (now (table .entry)) (now (image .entry)))) × (now (table .exit) ≡ readWords (now (table .entry)) (now (image .entry))) ⌝ }
 {
-    numbers(image::read(table, image))
+    count::numbers(image::read(table, image))
 }
 
 // The field at a position of an image.
@@ -199,7 +130,7 @@ pub extern "C" fn ring_image_read(table: &mut [u32], image: &[u8]) -> Answer
 pub extern "C" fn ring_image_field(image: &[u8], position: usize) -> Answer
     ensures { λ a. ⌜ a ≡ packed (fieldAt (now (image .entry)) position) ⌝ }
 {
-    numbers(image::field_at(image, position))
+    field::numbers(due::field_at(image, position))
 }
 
 // The audit, with one finding a member.
@@ -207,5 +138,5 @@ pub extern "C" fn ring_image_field(image: &[u8], position: usize) -> Answer
 pub extern "C" fn ring_findings(table: &[u32], out: &mut [Finding]) -> Answer
     ensures { λ a. ⌜ (a ≡ packed (findingsAnswer (now (table .entry)) (views (now (out .entry))))) × (views (now (out .exit)) ≡ findingsAfter (now (table .entry)) (views (now (out .entry)))) ⌝ }
 {
-    numbers(findings::findings(table, out))
+    report::numbers(findings::findings(table, out))
 }

@@ -1,4 +1,2 @@
 -- Laws that the proofs of this crate cite.
-pub mod Strings
-pub mod Digits
 pub mod Parts

@@ -16,14 +16,15 @@ use Rattle.laws.specs.Parts.{part-from}
 use Rattle.script.specs.Lines.{Unreadable, Asks as AsksOf, onFirst, parts, value, isNumber, numbersOf, takes, wordOf, asks, meaning}
 use Rattle.script.specs.declared.Word.{Word}
 use Rattle.script.specs.declared.Word.the-variants.{New, Join, Stab, Rect, Out, Drop, Find, Audit}
-use Rattle.line.specs.declared.Found.{Found}
-use Rattle.line.specs.declared.Found.the-variants.{Is}
-use Rattle.line.specs.declared.Number.the-variants.{Value, NoNumber}
+use Rattle.part.specs.declared.Found.{Found}
+use Rattle.part.specs.declared.Found.the-variants.{Is}
+use Rattle.part.specs.declared.Number.the-variants.{Value, NoNumber}
 use Rattle.line.specs.declared.Numbers.{Numbers}
 use Rattle.line.specs.declared.Numbers.the-variants.{Kept, Wrong}
 use Rattle.line.specs.declared.Line.{Line}
 use Rattle.line.specs.declared.Line.the-variants.{Asks, Bad}
-use Rattle.line.specs.Reading.{reach, foundOf, numberOf, following, firsts, someFirsts, given, Within, askedOf, viewed, InLine, cut}
+use Rattle.part.specs.Part.{reach, foundOf, numberOf}
+use Rattle.line.specs.Reading.{following, firsts, someFirsts, given, Within, askedOf, viewed, InLine, cut}
 
 -- the first part, and those after it
 pub first-part : (l : List ℕ) → parts l ≡ take (reach 32 l) l ∷ following (drop (reach 32 l) l)

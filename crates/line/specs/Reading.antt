@@ -1,39 +1,16 @@
 -- What the functions that read a line give, by the definitions of a session.
-use Prim.Native.Nat.{ℕ, suc, _≤_}
+use Prim.Native.Nat.{ℕ, _≤_}
 use mathlib.Core.List.{List, [], _∷_}
 use mathlib.Core.Option.{Option, some, none}
-use lib.Dec.{eqb}
 use lib.ListN.{take}
 use Rattle.model.specs.Lists.{if_then_else_}
-use Rattle.script.specs.Lines.{Meaning, Unreadable, Asks as AsksOf, parts, value, isNumber, takes, wordAmong}
-use Rattle.script.specs.declared.Word.{Word}
-use Rattle.script.specs.declared.Word.the-variants.{Out, Drop, Find, Audit}
-use Rattle.line.specs.declared.Found.{Found}
-use Rattle.line.specs.declared.Found.the-variants.{Is, Nothing}
-use Rattle.line.specs.declared.Number.{Number}
-use Rattle.line.specs.declared.Number.the-variants.{Value, NoNumber}
+use Rattle.script.specs.Lines.{Meaning, Unreadable, Asks as AsksOf, parts, takes}
+use Rattle.part.specs.declared.Found.{Found}
+use Rattle.part.specs.declared.Found.the-variants.{Is, Nothing}
 use Rattle.line.specs.declared.Numbers.{Numbers}
 use Rattle.line.specs.declared.Numbers.the-variants.{Kept, Wrong}
 use Rattle.line.specs.declared.Line.{Line}
 use Rattle.line.specs.declared.Line.the-variants.{Asks, Bad}
-
--- the place of the first byte c, or the length where there is none
-abbrev pub reach : ℕ → List ℕ → ℕ
-reach c [] = 0
-reach c (b ∷ l) = if eqb b c then 0 else suc (reach c l)
-
--- the word found, if any
-abbrev pub foundOf : Option Word → Found
-foundOf none = Nothing
-foundOf (some w) = Is w
-
--- the word that a part is, if it is none of the first four
-unfoldable pub laterOf : List ℕ → Option Word
-laterOf p = wordAmong (Out ∷ Drop ∷ Find ∷ Audit ∷ []) p
-
--- the number that a part is
-unfoldable pub numberOf : List ℕ → Number
-numberOf p = if isNumber p then Value (value p) else NoNumber
 
 -- the parts after a space, which stands before each; none where nothing follows
 abbrev pub following : List ℕ → List (List ℕ)

@@ -2,15 +2,14 @@
 use Prim.Native.Nat.{ℕ, suc, _+_, _*_, _-_, _≤_, _<_}
 use mathlib.Core.Path.{_≡_, refl, sym, ap, _∙_}
 use mathlib.Core.List.{List, [], _∷_, _++_}
-use native.Mathlib.Nat.{add-zero}
 use native.Mathlib.Omega.{arith}
 use lib.ListN.{length, take, drop, length-append, length-drop}
 use lib.Seq.{sets, length-take-le}
 use Rattle.laws.specs.Parts.{part-from}
 use Rattle.script.specs.Lines.{lines, meaning}
 use Rattle.script.specs.Session.{lineText, lineWords, textFrom, wordsFrom}
-use Rattle.text.specs.Written.{Wrote}
-use Rattle.text.proofs.Writing.{sets-append}
+use Rattle.put.specs.Written.{Wrote}
+use Rattle.put.proofs.Writing.{sets-append}
 use Rattle.rehearsal.specs.Outcomes.{Passed}
 
 -- the input s, the table t₀ and the bytes o₀ of the start; t, o, p as they are now, after n lines, at the place at

@@ -9,7 +9,7 @@ use lib.ListN.{length, take, drop, drop-of-length-le}
 use lib.Seq.{take-all, length-take-le}
 use Rattle.model.specs.Lists.{if_then_else_}
 use Rattle.script.specs.Lines.{onFirst, counted, lines}
-use Rattle.line.specs.Reading.{reach}
+use Rattle.part.specs.Part.{reach}
 use Rattle.rehearsal.specs.Outcomes.{Passed}
 
 -- the first line, and those after its line feed

@@ -1,18 +1,17 @@
 -- The whole session: its output at the front of the slice, or a slice that is too short. Assumes nothing.
 use Prim.Native.Nat.{ℕ, _+_, _*_, _≤_, _<_}
-use mathlib.Core.Path.{_≡_, refl, sym, ap, _∙_}
+use mathlib.Core.Path.{_≡_, sym, ap, _∙_}
 use mathlib.Core.Bool.{true, false}
-use mathlib.Core.List.{List, _++_}
+use mathlib.Core.List.{List}
 use native.Mathlib.Nat.{zero-add}
 use native.Mathlib.Omega.{arith}
-use lib.ListN.{length, take, drop}
+use lib.ListN.{length, take}
 use lib.Seq.{sets-eq, length-take-le}
 use borrow.Author.Tests.{le-leb, lt-leb}
 use Rattle.model.specs.Lists.{overlay}
 use Rattle.script.specs.Lines.{counted, lines}
 use Rattle.script.specs.Session.{textFrom, wordsFrom, sessionText, sessionWords}
-use Rattle.text.specs.Written.{Wrote}
-use Rattle.rehearsal.specs.declared.Outcome.{Outcome}
+use Rattle.put.specs.Written.{Wrote}
 use Rattle.rehearsal.specs.declared.Outcome.the-variants.{Written, TooShort}
 use Rattle.rehearsal.specs.Outcomes.{roomy, outcome, outAfter, wordsAfter, Within}
 

@@ -1,56 +1,17 @@
 // A session of the rehearsal program, over lent slices.
 ghost use mathlib.Core.Path.{_≡_};
-ghost use mathlib.Core.Bool.{true};
 ghost use Prim.Native.Nat.{_+_, _*_, _≤_, _<_};
 ghost use lib.ListN.{length, take};
-ghost use lib.Seq.{sets};
-ghost use Rattle.reply.specs.Answers.{answerOf};
-ghost use Rattle.script.specs.Lines.{takes, meaning, counted as countedOf, lines};
-ghost use Rattle.script.specs.Session.{wordAnswer, wordWords, lineText, lineWords, textFrom, wordsFrom};
-ghost use Rattle.line.specs.Reading.{reach};
-ghost use Rattle.text.specs.Written.{Wrote};
+ghost use Rattle.script.specs.Lines.{counted as countedOf, lines};
+ghost use Rattle.script.specs.Session.{textFrom, wordsFrom};
+ghost use Rattle.part.specs.Part.{reach};
+ghost use Rattle.put.specs.Written.{Wrote};
 ghost use Rattle.rehearsal.specs.Outcomes.{outcome as outcomeOf, outAfter, wordsAfter, Within, Passed};
-use calls::Call;
-use line::Line;
-use reply::Reply;
-use script::Word;
 
 // What a session gives: the count of bytes written, or the slice for them is too short.
 pub enum Outcome {
     Written(usize),
     TooShort,
-}
-
-// The call of a word with its numbers: its answer, and the table afterwards.
-fn call(t: &mut [u32], w: Word, xs: &[u32]) -> Reply
-    requires { ⌜ takes w (length (now xs)) ≡ true ⌝ }
-    ensures { λ a. ⌜ (answerOf a ≡ wordAnswer (now (t .entry)) w (now (xs .entry))) × (now (t .exit) ≡ wordWords (now (t .entry)) w (now (xs .entry))) ⌝ }
-{
-    match w {
-        Word::New => start::new(t, xs[0], &xs[1..]),
-        Word::Join => calls::apply(t, Call::Join(xs[0], xs[1])),
-        Word::Stab => calls::apply(t, Call::Stabilize(xs[0])),
-        Word::Rect => calls::apply(t, Call::Rectify(xs[0], xs[1])),
-        Word::Out => calls::apply(t, Call::Leave(xs[0])),
-        Word::Drop => calls::apply(t, Call::Fail(xs[0])),
-        Word::Find => calls::apply(t, Call::Lookup(xs[0], xs[1])),
-        Word::Audit => calls::apply(t, Call::Audit),
-    }
-}
-
-// One line, the n-th: what is printed for it, from place `at` on, and the table afterwards.
-fn run_line(l: &[u8], n: u32, t: &mut [u32], out: &mut [u8], at: usize) -> usize
-    requires { ⌜ (n ≤ 65536) × (at + 10 * (length (now l) + 1) ≤ length (now out)) ⌝ }
-    ensures { λ r. ⌜ (Wrote (lineText n (now (t .entry)) (meaning (now (l .entry)))) at (now (out .entry)) r (now (out .exit))) × (now (t .exit) ≡ lineWords (now (t .entry)) (meaning (now (l .entry)))) × (r ≤ at + 10 * (length (now (l .entry)) + 1)) ⌝ }
-{
-    let mut xs = [0u32; 258];
-    match line::read(l, &mut xs) {
-        Line::Asks(w, k) => {
-            let a = call(t, w, &xs[..k]);
-            text::answered(out, at, n, w, a)
-        }
-        Line::Bad => text::unread(out, at, n),
-    }
 }
 
 // The place after the first line, which is k bytes long, and its line feed.
@@ -73,9 +34,9 @@ fn run(s: &[u8], t: &mut [u32], out: &mut [u8]) -> usize
     let mut n: u32 = 0;
     let mut at: usize = 0;
     while 0 < p.len() {
-        let k = line::until(p, 10);
+        let k = part::until(p, 10);
         n += 1;
-        at = run_line(&p[..k], n, t, out, at);
+        at = turn::run_line(&p[..k], n, t, out, at);
         let e = past(p, k);
         p = &p[e..];
     }

@@ -1,10 +1,10 @@
 -- Document 01, "The rehearsal program": its session, computed by the definitions.
-use Prim.Native.Nat.{ℕ}
+use Prim.Native.Nat.{ℕ, _*_}
 use mathlib.Core.Path.{_≡_, refl}
-use mathlib.Core.List.{List, [], _∷_}
+use mathlib.Core.List.{List, [], _∷_, _++_}
 use lib.ListN.{replicate}
 use Rattle.model.specs.Identifier.{between, after}
-use Rattle.model.specs.Table.{formedMember, formed, wellFormed}
+use Rattle.model.specs.Table.{recordSize, wordsOf, formedMember, formed, wellFormed}
 use Rattle.model.specs.Ring.{candidateInside, sound, idealMember, ideal, verdict}
 use Rattle.model.specs.Steps.{stabilizeFromSuccessor, stabilizeFromPredecessor, stabilize, stabilizeReply, nextStep, renews}
 use Rattle.model.specs.Refusals.{full, cutsOff, tooFewPrincipals, noNewTable, joinRefusal, memberRefusal, leaveRefusal, auditRefusal, newRefusal}
@@ -14,9 +14,9 @@ use Rattle.script.specs.Lines.{isNumber, wordOf, numbersOf, meaning}
 use Rattle.script.specs.Text.{digits, fieldsText, answerText, answered, unread}
 use Rattle.script.specs.Session.{wordAnswer, wordWords, lineText, lineWords, sessionText}
 
--- a table of 3,075 words with no members and r = 1
+-- a table with no members and r = 1, and room for 256 with lists of 8
 abbrev pub noMembers : List ℕ
-noMembers = 1 ∷ replicate 3074 0
+noMembers = wordsOf (record { r = 1; steps = 0; members = [] }) ++ replicate (256 * recordSize 8) 0
 
 abbrev pub input : List ℕ
 input =

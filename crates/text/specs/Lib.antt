@@ -1,2 +1,2 @@
--- What the writing of answers cites.
-pub mod Written
+-- What the writing of a line cites.
+pub mod Words

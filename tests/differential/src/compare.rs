@@ -130,6 +130,11 @@ impl<T: Element> Lent<T> {
     }
 }
 
+/// An answer as it is printed: its number, its values, and how many of them it has.
+fn told(answer: &Answer) -> String {
+    format!("{} {:?}, {} values", answer.number, answer.values, answer.count)
+}
+
 /// The numbers each call can give, in the order of `NAMES`. Stabilize's three
 /// replies and audit's three verdicts count as 0, 20 and 21.
 const POSSIBLE: [&[usize]; 14] = [
@@ -242,7 +247,7 @@ impl Compare {
         };
         if self.trace {
             eprint!("{name}\n{}", inputs());
-            eprintln!("  reference {} {:?}", expected.number, expected.values);
+            eprintln!("  reference {}", told(&expected));
         }
         UNDER_WAY.store(index + 1, Ordering::Relaxed);
         let given = call(self.under_test, lib_a.slice(), lib_b.slice());
@@ -266,8 +271,8 @@ impl Compare {
             format!("REFERENCE changes a buffer in a refused {name}\n")
         };
         text += &inputs();
-        text += &format!("  reference {} {:?}\n", expected.number, expected.values);
-        text += &format!("  library   {} {:?}\n", given.number, given.values);
+        text += &format!("  reference {}\n", told(&expected));
+        text += &format!("  library   {}\n", told(&given));
         for (which, lines) in [("first", a.differences(&lib_a)), ("second", b.differences(&lib_b))]
         {
             if !lines.is_empty() {

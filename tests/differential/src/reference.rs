@@ -6,12 +6,13 @@ mod calls;
 
 pub use calls::*;
 
-/// `number` is 0 or the number that declines; unused values are 0.
+/// `number` is 0 or the number that declines; `count` values are there, unused ones are 0.
 #[repr(C)]
 #[derive(Clone, Copy, PartialEq, Eq, Debug)]
 pub struct Answer {
     pub number: u32,
     pub values: [u32; 4],
+    pub count: u32,
 }
 
 /// One record of the audit's list.
@@ -23,14 +24,19 @@ pub struct Finding {
     pub moves: u32,
 }
 
+/// An answer with its list of values.
+fn answer(number: u32, list: &[u32]) -> Answer {
+    let mut values = [0; 4];
+    values[..list.len()].copy_from_slice(list);
+    Answer { number, values, count: list.len() as u32 }
+}
+
 fn accept(values: &[u32]) -> Answer {
-    let mut all = [0; 4];
-    all[..values.len()].copy_from_slice(values);
-    Answer { number: 0, values: all }
+    answer(0, values)
 }
 
 fn decline(number: u32) -> Answer {
-    Answer { number, values: [0; 4] }
+    answer(number, &[])
 }
 
 /// "if a < b then a < n and n < b; else a < n or n < b"

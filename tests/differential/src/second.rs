@@ -99,6 +99,7 @@ faults! {
     FieldNext: "next position one too far",
     RefusalWrites: "withdrawal refused by 7 leaves the table changed",
     RefusalValue: "a refusal with a value",
+    CountPadded: "unused values counted",
 }
 
 thread_local! {
@@ -113,13 +114,16 @@ fn planted(fault: Fault) -> bool {
     PLANTED.with(|p| p.get()) == fault
 }
 
-fn yes(a: u32, b: u32, c: u32, d: u32) -> Answer {
-    Answer { number: 0, values: [a, b, c, d] }
+fn yes<const COUNT: usize>(said: [u32; COUNT]) -> Answer {
+    let mut values = [0; 4];
+    values[..COUNT].copy_from_slice(&said);
+    let count = if planted(Fault::CountPadded) { 4 } else { COUNT as u32 };
+    Answer { number: 0, values, count }
 }
 
 fn no(number: u32) -> Answer {
     let value = (planted(Fault::RefusalValue) && number == 3) as u32;
-    Answer { number, values: [value, 0, 0, 0] }
+    Answer { number, values: [value, 0, 0, 0], count: 0 }
 }
 
 fn between(a: u32, n: u32, b: u32) -> bool {
@@ -312,5 +316,5 @@ fn verdict(t: &[u32]) -> u32 {
 
 fn report(t: &[u32]) -> Answer {
     let on = ring(t).into_iter().filter(|&b| b).count();
-    yes(t[1], principals(t) as u32, on as u32, verdict(t))
+    yes([t[1], principals(t) as u32, on as u32, verdict(t)])
 }

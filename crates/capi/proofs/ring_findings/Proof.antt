@@ -1,6 +1,6 @@
 -- `ring_findings` meets its contract: a walk of its MIR, by hand, with no branch. Of `findings` and `numbers` it knows only that each meets its
 -- contract. `findings` is called at out's own lifetime, share and ghost name: the borrow is given up for good, and what `findings` says of its last
--- records is what `ring_findings` says of them. The answer is what `numbers` makes of the reply. Assumes nothing.
+-- records is what `ring_findings` says of them. The answer is what `numbers` makes of it. Assumes nothing.
 use mathlib.Core.Path.{_≡_, refl, _∙_, ap}
 use Prim.Native.Nat.{ℕ}
 use mathlib.Core.List.{[], _∷_, List}
@@ -38,10 +38,10 @@ use denote.Triple.Walked.{says, Stays, stay-none-slice, gave-slice, walkOf, goes
 use denote.Exit.{yes}
 use denote.Signature.{plain}
 use Rattle.model.specs.Calls.{findingsAnswer, findingsAfter}
-use Rattle.reply.specs.declared.Reply.{Reply}
-use Rattle.reply.specs.Answers.{answerOf}
-use Rattle.reply.proofs.Reply as Q
-use Rattle.reply.proofs.Reply.Laws as Q′
+use Rattle.report.specs.declared.Report.{Report}
+use Rattle.report.specs.Answers.{answerOf}
+use Rattle.report.proofs.Report as Q
+use Rattle.report.proofs.Report.Laws as Q′
 use Rattle.finding.specs.declared.Finding.{Finding}
 use Rattle.finding.proofs.Finding as T
 use Rattle.finding.specs.View.{views}
@@ -49,14 +49,14 @@ use Rattle.findings.proofs.findings as findings
 use Rattle.findings.proofs.findings.Symbol as findings-def
 use Rattle.findings.proofs.findings.Symbol.{name as #findings·findings}
 use Rattle.findings.proofs.findings.Met as findings-thm
-use Rattle.capi.specs.declared.Answer.{Answer}
-use Rattle.capi.specs.Packed.{packed}
-use Rattle.capi.proofs.Answer as N
-use Rattle.capi.proofs.Answer.Laws as N′
-use Rattle.capi.proofs.numbers as numbers
-use Rattle.capi.proofs.numbers.Symbol as numbers-def
-use Rattle.capi.proofs.numbers.Symbol.{name as #capi·numbers}
-use Rattle.capi.proofs.numbers.Met as numbers-thm
+use Rattle.answer.specs.declared.Answer.{Answer}
+use Rattle.answer.specs.Packed.{packed, Says}
+use Rattle.answer.proofs.Answer as N
+use Rattle.answer.proofs.Answer.Laws as N′
+use Rattle.report.proofs.numbers as numbers
+use Rattle.report.proofs.numbers.Symbol as numbers-def
+use Rattle.report.proofs.numbers.Symbol.{name as #report·numbers}
+use Rattle.report.proofs.numbers.Met as numbers-thm
 use Rattle.capi.proofs.ring_findings.Key.{name as #capi·ring_findings}
 use Rattle.capi.proofs.ring_findings as ring_findings
 use Rattle.capi.proofs.ring_findings.Statement as stated
@@ -113,11 +113,11 @@ module _ {M : Type 1} (𝓤 : URA M) (H : Heap 𝓤) (A : Atoms 𝓤) (W : Given
   asked-findings : ent 𝓤 (sep 𝓤 (sep 𝓤 (A .lft κ q) (sep 𝓤 (A .lft κ′ q′) (sem 𝓤 H A ftrue))) (sem 𝓤 H A lent-findings)) (Findings 𝓤 H A mem run .pre to-findings)
   asked-findings = qed W ((‵ (flft κ q) ⊛ (‵ (flft κ′ q′) ⊛ ‵ ftrue)) ∷ ‵ lent-findings ∷ []) ∵ join ! $ frame ! $ done !
 
-  abbrev Told : Reply → List Finding → Type 0
+  abbrev Told : Report → List Finding → Type 0
   Told r zs = (answerOf r ≡ findingsAnswer (w .now) (views ys)) × (views zs ≡ findingsAfter (w .now) (views ys))
 
   -- `numbers`: what it binds outside and is lent, and what it says
-  module _ (r : Reply) (u : Val) where
+  module _ (r : Report) (u : Val) where
     abbrev to-numbers : Numbers 𝓤 H A mem run .Ghost
     to-numbers = ((tt, tt, tt, (r, tt), (u ∷ [], tt)), tt)
 
@@ -127,19 +127,19 @@ module _ {M : Type 1} (𝓤 : URA M) (H : Heap 𝓤) (A : Atoms 𝓤) (W : Given
     asked-numbers : ent 𝓤 (sep 𝓤 (sem 𝓤 H A ftrue) (sem 𝓤 H A lent-numbers)) (Numbers 𝓤 H A mem run .pre to-numbers)
     asked-numbers = qed W (‵ ftrue ∷ ‵ lent-numbers ∷ []) ∵ join ! $ frame ! $ done !
 
-  said-numbers : (r : Reply) → (n : Answer) → ent 𝓤 (ensured 𝓤 H A numbers.ended (numbers.clauses 𝓤 H A mem run) tt (r, tt) tt n) (fact 𝓤 (n ≡ packed (answerOf r)))
-  said-numbers r n = exE 𝓤 _ (λ ls. snd∗ 𝓤 (sem 𝓤 H A (lasts numbers.ended tt (r, tt) ls)) (fact 𝓤 (n ≡ packed (answerOf r))))
+  said-numbers : (r : Report) → (n : Answer) → ent 𝓤 (ensured 𝓤 H A numbers.ended (numbers.clauses 𝓤 H A mem run) tt (r, tt) tt n) (fact 𝓤 (Says n (answerOf r)))
+  said-numbers r n = exE 𝓤 _ (λ ls. snd∗ 𝓤 (sem 𝓤 H A (lasts numbers.ended tt (r, tt) ls)) (fact 𝓤 (Says n (answerOf r))))
 
-  exits : (r : Reply) → (zs : List Finding) → Told r zs → length zs ≡ length ys → (n : Answer) → n ≡ packed (answerOf r) → (y : Val)
+  exits : (r : Report) → (zs : List Finding) → Told r zs → length zs ≡ length ys → (n : Answer) → Says n (answerOf r) → (y : Val)
       → ent 𝓤 (⋆ 𝓤 H A ((‵ (flft κ q) ⊛ (‵ (flft κ′ q′) ⊛ ‵ ftrue)) ∷ ‵ (finally R γ zs) ∷ ‵ OwnT ∷ ‵ (N.the-row .own n (y ∷ [])) ∷ [])) (Post y)
   exits r zs told l n e y =
       qed W ((‵ (flft κ q) ⊛ (‵ (flft κ′ q′) ⊛ ‵ ftrue)) ∷ ‵ (finally R γ zs) ∷ ‵ OwnT ∷ ‵ (N.the-row .own n (y ∷ [])) ∷ []) ∵
       suffices ! _ (ends-at 𝓤 H A ring_findings.ended stayed (ring_findings.clauses 𝓤 H A mem run) W (((κ, (κ′, tt)), (q, (q′, tt)), tt, a, at), tt) y n (tt, (zs, tt)) (tt, (l, tt))) $
-      says ! (e ∙ ap packed (told .0), told .1) $ frame ! $
+      says ! (e .packs ∙ ap packed (told .0), told .1) $ frame ! $
       -- [out's last records; t; the answer]
       nothing ! $ move ! (1 ∷ 0 ∷ []) $ fjoin ! $ move ! (1 ∷ 0 ∷ []) $ fjoin ! $ frame ! $ done !
 
-  module _ (C : Calls 𝓤 H) (Λ : Loops 𝓤 H) (fm : FmC 𝓤 H (W .laws) C) (known-findings : Triple 𝓤 (C #findings·findings) (Findings 𝓤 H A mem run)) (known-numbers : Triple 𝓤 (C #capi·numbers) (Numbers 𝓤 H A mem run)) where
+  module _ (C : Calls 𝓤 H) (Λ : Loops 𝓤 H) (fm : FmC 𝓤 H (W .laws) C) (known-findings : Triple 𝓤 (C #findings·findings) (Findings 𝓤 H A mem run)) (known-numbers : Triple 𝓤 (C #report·numbers) (Numbers 𝓤 H A mem run)) where
     walk : ent 𝓤 (onEntry 𝓤 H A ring_findings.signature (κ, (κ′, tt)) (q, (q′, tt)) a at) (WpFn 𝓤 H C Λ code.function (v ∷ s ∷ []) Post)
     walk =
         qed W ((‵ (flft κ q) ⊛ ‵ (flft κ′ q′) ⊛ ‵ ftrue) ∷ ‵ lent-findings ∷ []) ∵ enter ! C Λ code.function (v ∷ s ∷ []) _ $
@@ -153,20 +153,20 @@ module _ {M : Type 1} (𝓤 : URA M) (H : Heap 𝓤) (A : Atoms 𝓤) (W : Given
         use2 W (raw (Findings 𝓤 H A mem run .pre to-findings)) asked-findings $
         -- [what `findings` asks; table; _5; …; _4; …; _3; …; _2; …; _1; …; room for _0; …]
         calls-at ! fm (Findings 𝓤 H A mem run) known-findings to-findings (and-then ! (load ! (from ! (stop !)) (look ! 10 refl)) (and-then ! (load ! (from ! (stop !)) (look ! 2 refl)) (no-more !))) (λ u.
-        use1 W (later (some (λ (r : Reply). ((‵ (flft κ q) ⊛ (‵ (flft κ′ q′) ⊛ ‵ ftrue)) ⊛ ‵ (Q.the-row .own r (u ∷ []))) ⊛ raw (ensured 𝓤 H A findings.ended (findings.clauses 𝓤 H A mem run) (κ, (κ′, tt)) a tt r)))) (id⊢ 𝓤 _) $ await ! tt $ pick ! (λ r.
+        use1 W (later (some (λ (r : Report). ((‵ (flft κ q) ⊛ (‵ (flft κ′ q′) ⊛ ‵ ftrue)) ⊛ ‵ (Q.the-row .own r (u ∷ []))) ⊛ raw (ensured 𝓤 H A findings.ended (findings.clauses 𝓤 H A mem run) (κ, (κ′, tt)) a tt r)))) (id⊢ 𝓤 _) $ await ! tt $ pick ! (λ r.
         split ! $ move ! (1 ∷ []) $ use1 W (some (λ (ls : Unit {0} × (List Finding × Unit {0})). ‵ (lasts findings.ended (κ, (κ′, tt)) a ls) ⊛ raw (fact 𝓤 (Told r (ls .1 .0))))) (id⊢ 𝓤 _) $ pick ! (λ ls.
         split ! $ move ! (1 ∷ []) $ heard ! (Told r (ls .1 .0)) (λ told.
-        -- [what says the last values; the tokens and the reply; table; _5; …]
+        -- [what says the last values; the tokens and the report; table; _5; …]
         fsplit ! $ drop ! $ fsplit ! $ fsplit ! $ move ! (1 ∷ []) $ feqL ! (λ l.
-        -- [out's last records; true; the tokens and the reply; table; _5; …]
+        -- [out's last records; true; the tokens and the report; table; _5; …]
         move ! (2 ∷ []) $ split ! $ move ! (1 ∷ []) $ peeks ! Q.the-row (Is Q.the-row) (shows 𝓤 H A Q.the-row) r (u ∷ []) (λ is.
-        -- [the reply; the tokens; out's last records; true; table; _5; …; _4; …; _3; …; _2; …; _1; …; room for _0; …]
+        -- [the report; the tokens; out's last records; true; table; _5; …; _4; …; _3; …; _2; …; _1; …; room for _0; …]
         land ! (from ! (stop !)) (init ! 9 refl (EL.lawful Q.the-type Q′.the-laws 𝓤 H A W tt .typed r _ is .0)) $
         nothing ! $ move ! (1 ∷ 0 ∷ []) $ fjoin ! $ nothing ! $ use2 W (raw (Numbers 𝓤 H A mem run .pre (to-numbers r u))) (asked-numbers r u) $
         -- [what `numbers` asks; the tokens; out's last records; true; table; _5; …]
         calls-at ! fm (Numbers 𝓤 H A mem run) known-numbers (to-numbers r u) (and-then ! (load ! (from ! (stop !)) (look ! 9 refl)) (no-more !)) (λ y.
         use1 W (later (some (λ (n : Answer). (‵ ftrue ⊛ ‵ (N.the-row .own n (y ∷ []))) ⊛ raw (ensured 𝓤 H A numbers.ended (numbers.clauses 𝓤 H A mem run) tt (r, tt) tt n)))) (id⊢ 𝓤 _) $ await ! tt $ pick ! (λ n.
-        split ! $ move ! (1 ∷ []) $ use1 W (raw (fact 𝓤 (n ≡ packed (answerOf r)))) (said-numbers r n) $ heard ! (n ≡ packed (answerOf r)) (λ e. split ! $ drop ! $
+        split ! $ move ! (1 ∷ []) $ use1 W (raw (fact 𝓤 (Says n (answerOf r)))) (said-numbers r n) $ heard ! (Says n (answerOf r)) (λ e. split ! $ drop ! $
         -- [the answer; the tokens; out's last records; true; table; _5; …]
         peeks ! N.the-row (Is N.the-row) (shows 𝓤 H A N.the-row) n (y ∷ []) (λ isy.
         land ! (from ! (stop !)) (init ! 15 refl (LL.lawful N.the-type N′.the-laws 𝓤 H A W .typed n _ isy .0)) $
@@ -174,7 +174,7 @@ module _ {M : Type 1} (𝓤 : URA M) (H : Heap 𝓤) (A : Atoms 𝓤) (W : Given
         move ! (15 ∷ 16 ∷ []) $ free1 ! $ move ! (13 ∷ 14 ∷ []) $ free1 ! $ move ! (11 ∷ 12 ∷ []) $ free1 ! $ move ! (9 ∷ 10 ∷ []) $ free1 ! $ move ! (7 ∷ 8 ∷ []) $ free1 ! $ move ! (5 ∷ 6 ∷ []) $ free1 ! $ free0 ! $
         keep ! (1 ∷ 2 ∷ 4 ∷ 0 ∷ []) $ by ! (exits r (ls .1 .0) told l n e y)))))))))))))))))
 
-module _ {M : Type 1} (𝓤 : URA M) (H : Heap 𝓤) (A : Atoms 𝓤) (W : Given 𝓤 H A) (mem : Memory → SProp 𝓤) (run : Routine → Fun 𝓤) (𝓣 : Tables 𝓤 H) (known-findings : Triple 𝓤 (𝓣 .C #findings·findings) (Findings 𝓤 H A mem run)) (known-numbers : Triple 𝓤 (𝓣 .C #capi·numbers) (Numbers 𝓤 H A mem run)) where
+module _ {M : Type 1} (𝓤 : URA M) (H : Heap 𝓤) (A : Atoms 𝓤) (W : Given 𝓤 H A) (mem : Memory → SProp 𝓤) (run : Routine → Fun 𝓤) (𝓣 : Tables 𝓤 H) (known-findings : Triple 𝓤 (𝓣 .C #findings·findings) (Findings 𝓤 H A mem run)) (known-numbers : Triple 𝓤 (𝓣 .C #report·numbers) (Numbers 𝓤 H A mem run)) where
   ring-findings-walks : Walks 𝓤 H A ring_findings.ended stayed (WpFn 𝓤 H (𝓣 .C) (𝓣 .Λ) code.function) (ring_findings.clauses 𝓤 H A mem run)
   ring-findings-walks = walked 𝓤 H A ring_findings.ended stayed (ring_findings.clauses 𝓤 H A mem run) (WpFn 𝓤 H (𝓣 .C) (𝓣 .Λ) code.function)
       (λ κs. (slice-vals, (slice-vals, tt))) (λ κs. (shr-slice-tells (named 0) (κs .0) u32, (mut-slice-tells (named 1) (κs .1 .0) R, tt)))
@@ -193,4 +193,4 @@ ring-findings-spec 𝓤 H 𝓜 𝓖 𝓡 =
     (tables 𝓤 H 𝓜 𝓡 code.env .C) (tables 𝓤 H 𝓜 𝓡 code.env .Λ) #capi·ring_findings code.function (code.unfolded 𝓤 H 𝓜 𝓡)
     (ring-findings-meets 𝓤 H (𝓖 .A) (givenOf 𝓤 H 𝓜 𝓖) (𝓜 .mem) (𝓡 .run) (tablesOf 𝓤 H 𝓜 (tables 𝓤 H 𝓜 𝓡 code.env))
     (cited 𝓤 H (Findings 𝓤 H (𝓖 .A) (𝓜 .mem) (𝓡 .run)) 𝓜 𝓡 code.env #findings·findings findings-def.routine code.calls-findings·findings (findings-thm.met 𝓤 H 𝓜 𝓖 𝓡))
-    (cited 𝓤 H (Numbers 𝓤 H (𝓖 .A) (𝓜 .mem) (𝓡 .run)) 𝓜 𝓡 code.env #capi·numbers numbers-def.routine code.calls-capi·numbers (numbers-thm.met 𝓤 H 𝓜 𝓖 𝓡)))
+    (cited 𝓤 H (Numbers 𝓤 H (𝓖 .A) (𝓜 .mem) (𝓡 .run)) 𝓜 𝓡 code.env #report·numbers numbers-def.routine code.calls-report·numbers (numbers-thm.met 𝓤 H 𝓜 𝓖 𝓡)))

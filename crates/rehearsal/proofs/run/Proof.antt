@@ -1,5 +1,4 @@
 -- `run` meets its contract. The invariant is that the session is on its way. Assumes nothing.
-use mathlib.Core.Path.{_∙_}
 use native.Mathlib.Omega.{arith}
 use lib.ListN.{length, length-drop}
 use borrow.Author.Needs.{needs}

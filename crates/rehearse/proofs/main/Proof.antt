@@ -1,5 +1,4 @@
 -- `main` meets its contract: what the session counts stands in the output. Assumes nothing.
-use mathlib.Core.Path.{sym}
 use borrow.Author.Needs.{needs}
 use Rattle.rehearsal.specs.Outcomes.{Within}
 use Rattle.rehearsal.specs.declared.Outcome.the-variants.{Written}

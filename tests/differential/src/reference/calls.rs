@@ -157,7 +157,7 @@ pub fn lookup(table: &[u32], n: u32, k: u32) -> Answer {
     loop {
         let q = at.identifier;
         let Some(b) = t.first_live(at) else {
-            return Answer { number: 8, values: [q, 0, 0, 0] };
+            return answer(8, &[q]);
         };
         if k == b || between(q, k, b) {
             return accept(&[b, q, moves]);
@@ -208,7 +208,7 @@ pub fn take_over(own: u32, h: u32, c: u32, h_list: &[u32], c_list: &[u32]) -> An
         None => list,
         Some((_, part)) => part,
     };
-    accept(&[from_c as u32, part.len() as u32])
+    accept(&[from_c as u32, part.len() as u32, (part.len() >> 32) as u32])
 }
 
 pub fn image_write(table: &[u32], image: &mut [u8]) -> Answer {

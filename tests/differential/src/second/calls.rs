@@ -32,7 +32,7 @@ pub fn new(table: &mut [u32], r: u32, ids: &[u32]) -> Answer {
             table[o + 4 + e] = ids[k];
         }
     }
-    yes(n as u32, 0, 0, 0)
+    yes([n as u32])
 }
 
 pub fn join(table: &mut [u32], j: u32, p: u32) -> Answer {
@@ -83,7 +83,7 @@ pub fn join(table: &mut [u32], j: u32, p: u32) -> Answer {
         let o = end(table);
         table[o] = 0;
     }
-    yes(table[1], 0, 0, 0)
+    yes([table[1]])
 }
 
 /// Puts h in front of the list at `to`, with the list at `from` after it.
@@ -127,16 +127,16 @@ pub fn stabilize(table: &mut [u32], n: u32) -> Answer {
                 table[o + 3] = 0;
             }
         }
-        answer = yes(2, named, 0, 0);
+        answer = yes([2, named]);
     } else if let Some(place) = find(table, h) {
         let c = table[offset(table, place) + 1];
         take(table, i, place);
         if between(n, c, h) {
             table[o + 2] = 1;
             table[o + 3] = c;
-            answer = yes(1, c, 0, 0);
+            answer = yes([1, c]);
         } else {
-            answer = yes(2, h, 0, 0);
+            answer = yes([2, h]);
         }
     } else {
         let old = table[last];
@@ -150,7 +150,7 @@ pub fn stabilize(table: &mut [u32], n: u32) -> Answer {
         } else {
             old.wrapping_add(1)
         };
-        answer = yes(0, 0, 0, 0);
+        answer = yes([0]);
     }
     if planted(Fault::StepWraps) {
         table[2] = table[2].wrapping_add(1);
@@ -174,9 +174,9 @@ pub fn rectify(table: &mut [u32], n: u32, q: u32) -> Answer {
     let dead = find(table, old).is_none() && !planted(Fault::RectifyAlive);
     if dead || between(old, q, n) {
         table[o] = q;
-        return yes((old != q || !planted(Fault::RectifySame)) as u32, 0, 0, 0);
+        return yes([(old != q || !planted(Fault::RectifySame)) as u32]);
     }
-    yes(0, 0, 0, 0)
+    yes([0])
 }
 
 fn remove(table: &mut [u32], i: usize) -> Answer {
@@ -192,7 +192,7 @@ fn remove(table: &mut [u32], i: usize) -> Answer {
     if planted(Fault::PastSlice) {
         unsafe { table.as_mut_ptr().add(table.len()).write_volatile(0) };
     }
-    yes(table[1], 0, 0, 0)
+    yes([table[1]])
 }
 
 pub fn fail(table: &mut [u32], n: u32) -> Answer {
@@ -251,7 +251,7 @@ pub fn lookup(table: &[u32], n: u32, k: u32) -> Answer {
         return no(3);
     };
     if planted(Fault::FindOwnKey) && k == n {
-        return yes(n, n, 0, 0);
+        return yes([n, n, 0]);
     }
     let mut q = start;
     for moves in 0..size(table) as u32 {
@@ -262,11 +262,11 @@ pub fn lookup(table: &[u32], n: u32, k: u32) -> Answer {
         };
         let Some(b) = next else {
             let member = if planted(Fault::FindWrongEight) { start } else { q };
-            return Answer { number: 8, values: [id(table, member), 0, 0, 0] };
+            return Answer { number: 8, values: [id(table, member), 0, 0, 0], count: 1 };
         };
         if k == id(table, b) || between(id(table, q), k, id(table, b)) {
             let moves = moves + planted(Fault::FindLastMove) as u32;
-            return yes(id(table, b), id(table, q), moves, 0);
+            return yes([id(table, b), id(table, q), moves]);
         }
         q = b;
     }
@@ -335,7 +335,7 @@ pub fn alike(a: &[u32], b: &[u32]) -> Answer {
         return no(1);
     }
     if !formed(b) {
-        return yes(0, 0, 0, 0);
+        return yes([0]);
     }
     let mut same = (a[0] == b[0] || planted(Fault::AlikeR)) && a[1] == b[1];
     if planted(Fault::AlikeSteps) {
@@ -345,7 +345,7 @@ pub fn alike(a: &[u32], b: &[u32]) -> Answer {
         same = same && id(a, i) == id(b, i);
         same = same && (list(a, i)[0] == list(b, i)[0] || planted(Fault::AlikeFirst));
     }
-    yes(same as u32, 0, 0, 0)
+    yes([same as u32])
 }
 
 pub fn take_over(own: u32, h: u32, c: u32, h_list: &[u32], c_list: &[u32]) -> Answer {
@@ -353,7 +353,7 @@ pub fn take_over(own: u32, h: u32, c: u32, h_list: &[u32], c_list: &[u32]) -> An
     let c_wins = better && (!c_list.is_empty() || planted(Fault::TakeOverEmpty));
     let chosen = if c_wins { c_list.len() } else { h_list.len() };
     let length = if planted(Fault::TakeOverLast) { chosen } else { chosen.saturating_sub(1) };
-    yes(c_wins as u32, length as u32, 0, 0)
+    yes([c_wins as u32, length as u32, 0])
 }
 
 // The image: a record takes 16 + 4r bytes, the head 10, the end 3.

@@ -46,7 +46,7 @@ pub fn image_write(table: &[u32], image: &mut [u8]) -> Answer {
         }
     }
     image[total - 3..total].copy_from_slice(&[3, 0, 0]);
-    yes(total as u32, 0, 0, 0)
+    yes([total as u32])
 }
 
 fn is_image(image: &[u8]) -> bool {
@@ -115,7 +115,7 @@ pub fn image_read(table: &mut [u32], image: &[u8]) -> Answer {
             table[o + 4 + k] = word(&at[13 + 4 * k..]);
         }
     }
-    yes(n as u32, 0, 0, 0)
+    yes([n as u32])
 }
 
 pub fn image_field(image: &[u8], position: usize) -> Answer {
@@ -158,5 +158,5 @@ pub fn image_field(image: &[u8], position: usize) -> Answer {
         return no(9);
     }
     let next = position + 3 + length + (planted(Fault::FieldNext) && tag == 2) as usize;
-    yes(tag as u32, position as u32 + 3, length as u32, next as u32)
+    yes([tag as u32, position as u32 + 3, length as u32, next as u32])
 }

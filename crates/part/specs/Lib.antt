@@ -1,0 +1,2 @@
+-- What the reading of a part cites.
+pub mod Part

@@ -1,0 +1,2 @@
+-- What the contracts of a function that writes cite.
+pub mod Written

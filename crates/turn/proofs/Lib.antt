@@ -1,0 +1,4 @@
+-- Laws that the proofs of this crate cite.
+pub mod Short
+pub mod Sizes
+pub mod Readable

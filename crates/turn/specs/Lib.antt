@@ -1,0 +1,2 @@
+-- What the contract of a line's call cites.
+pub mod Named
