@@ -13,10 +13,9 @@ use Rattle.laws.specs.Parts.{part-from}
 use borrow.Author.Tests.{lt-leb, le-leb, lt-ltb, le-ltb, eq-eqb, ne-eqb}
 use Rattle.model.specs.Lists.{if_then_else_, option}
 use Rattle.model.specs.Answer.{declined}
-use Rattle.model.specs.Image.{Due, fieldHead, headerLength, headerDue, memberLength, imageR, imageCount, fieldStands, dueAfter, due, fieldAt}
+use Rattle.model.specs.Image.{Due, fieldHead, headerLength, headerDue, memberLength, imageR, imageCount, fieldStands, dueAfter, due, fieldAt, fieldReply}
 use Rattle.laws.specs.Bytes.{fieldSize}
 use Rattle.fields.specs.Fields.{firstSize, headIs}
-use Rattle.due.specs.Replies.{fieldReply}
 
 -- as many fields as two bytes say, with lists as long as one byte says, are the most
 pub most-due : (n r : ℕ) → n < 65536 → r < 256 → n * fieldSize r ≤ 65535 * fieldSize 255

@@ -1,9 +1,8 @@
 // The field at a position of an image: which one is due there, and whether it stands.
 ghost use mathlib.Core.Path.{_≡_};
 ghost use Prim.Native.Nat.{_≤_};
-ghost use Rattle.model.specs.Image.{fieldAt};
+ghost use Rattle.model.specs.Image.{fieldAt, fieldReply};
 ghost use Rattle.field.specs.Answers.{answerOf};
-ghost use Rattle.due.specs.Replies.{fieldReply};
 use field::Field;
 
 // The answer where a field of this tag and length is due at a position.

@@ -121,8 +121,14 @@ due bs at =
     then dueAfter (imageR bs) (imageCount bs) (at - (fieldHead + headerLength))
     else none
 
--- the field at a position: its tag, where its contents start and how long they are, and the position after it; or 9
+-- the answer of a field: its tag, where its contents start and how long they are, and the position after it
+abbrev pub fieldAnswer : ℕ → Due → Answer
+fieldAnswer at d = accepted (d .tag ∷ (at + fieldHead) ∷ d .length ∷ (at + fieldHead + d .length) ∷ [])
+
+-- the answer where a field is due at a position: that of the field, or 9 where it does not stand
+abbrev pub fieldReply : List ℕ → ℕ → Due → Answer
+fieldReply bs at d = if fieldStands bs at d then fieldAnswer at d else declined 9
+
+-- the field at a position, or 9
 unfoldable pub fieldAt : List ℕ → ℕ → Answer
-fieldAt bs at =
-    option (due bs at) (declined 9)
-    (λ d. if fieldStands bs at d then accepted (d .tag ∷ (at + fieldHead) ∷ d .length ∷ (at + fieldHead + d .length) ∷ []) else declined 9)
+fieldAt bs at = option (due bs at) (declined 9) (λ d. fieldReply bs at d)

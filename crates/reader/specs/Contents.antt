@@ -2,7 +2,7 @@
 use Prim.Native.Nat.{ℕ, _+_, _≤_}
 use mathlib.Core.Path.{_≡_, refl, ap}
 use mathlib.Core.Bool.{Bool, true, false, _&&_}
-use mathlib.Core.List.{List, [], _∷_}
+use mathlib.Core.List.{List, []}
 use mathlib.Core.Option.{Option, some, none}
 use native.Mathlib.Omega.{arith}
 use lib.Dec.{leb, eqb}
@@ -10,8 +10,8 @@ use lib.ListN.{length, getD, take, drop, length-drop}
 use lib.Seq.{length-take-le}
 use borrow.Author.Tests.{leb-true, le-leb, eqb-true}
 use Rattle.model.specs.Lists.{if_then_else_}
-use Rattle.model.specs.Answer.{Answer, accepted, declined}
-use Rattle.model.specs.Image.{Due, fieldHead, numberAt, due, fieldStands, fieldAt}
+use Rattle.model.specs.Answer.{declined}
+use Rattle.model.specs.Image.{Due, fieldHead, numberAt, due, fieldStands, fieldAnswer, fieldAt}
 use Rattle.laws.specs.Lists.{and-true}
 use Rattle.reader.specs.Read.{nextOf, partOf, contentsOf}
 
@@ -41,10 +41,6 @@ pub record FieldContents (bs : List ℕ) (at : ℕ) : Type 0 where
   pub where-declined : (fieldAt bs at .number ≡ 0 → ⊥) → NotHanded bs at
 
 module _ (bs : List ℕ) (at : ℕ) where
-  -- the answer for a field that stands
-  abbrev answered : Due → Answer
-  answered d = accepted (d .tag ∷ (at + fieldHead) ∷ d .length ∷ (at + fieldHead + d .length) ∷ [])
-
   -- what `fieldAt` tests for a field that is due
   stands : (d : Due) → fieldStands bs at d ≡ true → (at + fieldHead + d .length ≤ length bs) × (getD bs at 0 ≡ d .tag) × (numberAt bs (at + 1) 2 ≡ d .length)
   unfolding fieldStands
@@ -60,7 +56,7 @@ module _ (bs : List ℕ) (at : ℕ) where
   part-length : (d : Due) → at + fieldHead + d .length ≤ length bs → length (take (d .length) (drop (at + fieldHead) bs)) ≡ d .length
   part-length d h = length-take-le (d .length) (drop (at + fieldHead) bs) (omega (arith, length-drop (at + fieldHead) bs))
 
-  handed : (d : Due) → due bs at ≡ some d → fieldStands bs at d ≡ true → fieldAt bs at ≡ answered d → Handed bs at
+  handed : (d : Due) → due bs at ≡ some d → fieldStands bs at d ≡ true → fieldAt bs at ≡ fieldAnswer at d → Handed bs at
   handed d e t f =
       let s = stands d t in
       let c : contentsOf (fieldAt bs at) bs ≡ take (d .length) (drop (at + fieldHead) bs) = rw f (part-is d (s .0)) in
@@ -74,7 +70,7 @@ module _ (bs : List ℕ) (at : ℕ) where
   unfolding fieldAt
   none-due e = rw e
 
-  one-due : (d : Due) (b : Bool) → due bs at ≡ some d → fieldStands bs at d ≡ b → fieldAt bs at ≡ (if b then answered d else declined 9)
+  one-due : (d : Due) (b : Bool) → due bs at ≡ some d → fieldStands bs at d ≡ b → fieldAt bs at ≡ (if b then fieldAnswer at d else declined 9)
   unfolding fieldAt
   one-due d b e s = rw (e, s)
 

@@ -2,10 +2,9 @@
 use Prim.Native.Nat.{ℕ, _*_, _≤_}
 use mathlib.Core.Path.{_≡_, sym, ap, ap₂, _∙_}
 use native.Mathlib.Omega.{arith}
-use Rattle.model.specs.Image.{memberLength, imageR}
+use Rattle.model.specs.Image.{memberLength, imageR, fieldReply}
 use Rattle.laws.specs.Bytes.{fieldSize}
 use Rattle.due.proofs.Due.{Behind, most-due, first-due, early, cut-short, other-head, last-due, too-far, member-due, within}
-use Rattle.due.specs.Replies.{fieldReply}
 use borrow.Author.Needs.{needs}
 use Rattle.due.proofs.field_at.Statement.{statement}
 use Rattle.due.proofs.field_at.Tie as tie
