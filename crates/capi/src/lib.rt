@@ -1,12 +1,14 @@
 // The library for C: thin exports over the proved calls. include/ring.h declares them.
 ghost use mathlib.Core.Path.{_≡_};
-ghost use Rattle.model.specs.Calls.{joinAnswer, joinWords, stabilizeAnswer, stabilizeWords, rectifyAnswer, rectifyWords, failAnswer, failWords, leaveAnswer, leaveWords, lookupAnswer, auditAnswer, newAnswer, newWords, alikeAnswer, writeAnswer, writeBytes, readAnswer, readWords, findingsAnswer, findingsAfter};
+ghost use Rattle.model.specs.Calls.{joinAnswer, joinWords, stabilizeAnswer, stabilizeWords, rectifyAnswer, rectifyWords, failAnswer, failWords, leaveAnswer, leaveWords, lookupAnswer, auditAnswer, newAnswer, newWords, alikeAnswer, writeAnswer, writeBytes, readAnswer, readWords, findingsAnswer, findingsAfter, heldAnswer};
 ghost use Rattle.model.specs.Image.{fieldAt};
 ghost use Rattle.finding.specs.View.{views};
 ghost use Rattle.answer.specs.Packed.{packed};
+ghost use Rattle.runs.specs.Answers.{packed as packedRuns};
 ghost use Rattle.capi.specs.TakeOver.{takeOverAnswer};
 use answer::Answer;
 use finding::Finding;
+use runs::RunsAnswer;
 
 // Join j by p.
 #[no_mangle]
@@ -139,4 +141,12 @@ pub extern "C" fn ring_findings(table: &[u32], out: &mut [Finding]) -> Answer
     ensures { λ a. ⌜ (a ≡ packed (findingsAnswer (now (table .entry)) (views (now (out .entry))))) × (views (now (out .exit)) ≡ findingsAfter (now (table .entry)) (views (now (out .entry)))) ⌝ }
 {
     report::numbers(findings::findings(table, out))
+}
+
+// The runs of the keys that the member n holds.
+#[no_mangle]
+pub extern "C" fn ring_held(table: &[u32], n: u32, keys: &[u32]) -> RunsAnswer
+    ensures { λ a. ⌜ a ≡ packedRuns (heldAnswer (now (table .entry)) n (now (keys .entry))) ⌝ }
+{
+    runs::numbers(held::held(table, n, keys))
 }

@@ -13,6 +13,7 @@ use Rattle.model.specs.Steps.{without}
 use Rattle.model.specs.Refusals.{cutsOff, tooFewPrincipals, memberRefusal, leaveRefusal}
 use Rattle.model.specs.Calls.{writtenFreed}
 use Rattle.laws.specs.Lists.{live-in}
+use Rattle.laws.specs.Accepted.{causes-declined}
 use Rattle.laws.specs.Words.{members-length, words-read, words-written, writtenFreed-table}
 use Rattle.laws.specs.Tables.{wellFormed-facts, facts-wellFormed, holds-formed, formed-lists, writtenFreed-formed}
 use Rattle.laws.specs.Removed.{removed-length, removed-formed, removed-size}
@@ -53,15 +54,9 @@ removed-facts ws n f l =
 
 -- The causes of a withdrawal
 
--- where one of the first two applies, the later ones do not matter
-first-causes : (a b : Bool) (cs : List Cause) → (firstOf ((1 when a) ∷ (3 when b) ∷ []) ≡ 0 → ⊥) → firstOf ((1 when a) ∷ (3 when b) ∷ []) ≡ firstOf ((1 when a) ∷ (3 when b) ∷ cs)
-first-causes true b cs h = refl
-first-causes false true cs h = refl
-first-causes false false cs h = absurd (h refl)
-
 pub member-refused : (ws : List ℕ) (n : ℕ) → (memberRefusal ws n ≡ 0 → ⊥) → memberRefusal ws n ≡ leaveRefusal ws n
-unfolding memberRefusal leaveRefusal
-member-refused ws n h = first-causes (not (wellFormed ws)) (not (live (membersIn ws) n)) ((6 when cutsOff (without n (tableOf ws))) ∷ (7 when tooFewPrincipals (without n (tableOf ws))) ∷ []) h
+unfolding leaveRefusal
+member-refused ws n h = causes-declined ws n ((6 when cutsOff (without n (tableOf ws))) ∷ (7 when tooFewPrincipals (without n (tableOf ws))) ∷ []) h
 
 -- the causes that are left are judged on a slice that holds the table as it would be afterwards
 pub left-causes : (ws a : List ℕ) (n : ℕ) → Formed ws → live (membersIn ws) n ≡ true → tableOf a ≡ without n (tableOf ws) → leaveRefusal ws n ≡ firstOf ((6 when cutsOff (tableOf a)) ∷ (7 when tooFewPrincipals (tableOf a)) ∷ [])

@@ -1,7 +1,7 @@
 -- Declined and accepted calls: what a number other than 0 leaves, and what holds where no cause applies. Assumes nothing.
 use mathlib.Core.Path.{_≡_, refl}
 use mathlib.Core.Bool.{Bool, true, false, not}
-use mathlib.Core.List.{List}
+use mathlib.Core.List.{List, [], _∷_}
 use Prim.Native.Nat.{ℕ, zero, suc, _-_, _≤_, _<_}
 use native.Mathlib.Omega.{arith}
 use lib.ListN.{length}
@@ -11,7 +11,7 @@ use Rattle.model.specs.Lists.{if_then_else_}
 use Rattle.model.specs.Identifier.{between}
 use Rattle.model.specs.Table.{recordSize, size, tableOf, membersIn, wellFormed}
 use Rattle.model.specs.Ring.{live, named, successor}
-use Rattle.model.specs.Answer.{Answer, accepted, declined, answer, afterwards}
+use Rattle.model.specs.Answer.{Answer, accepted, declined, Cause, _when_, firstOf, answer, afterwards}
 use Rattle.model.specs.Steps.{without}
 use Rattle.model.specs.Refusals.{full, cutsOff, tooFewPrincipals, joinRefusal, memberRefusal, leaveRefusal}
 use Rattle.laws.specs.Lists.{or-false}
@@ -55,6 +55,26 @@ member-accepted ws n h = not-false _ (none-applies 2 (not (live (membersIn ws) n
 pub member-accepts : (ws : List ℕ) (n : ℕ) → wellFormed ws ≡ true → live (membersIn ws) n ≡ true → memberRefusal ws n ≡ 0
 unfolding memberRefusal
 member-accepts ws n h l = rw (h, l)
+
+-- 1 and 3 come first in every call of a member: where one of them applies, the causes after them do not matter
+pub causes-declined : (ws : List ℕ) (n : ℕ) (cs : List Cause) → (memberRefusal ws n ≡ 0 → ⊥) → memberRefusal ws n ≡ firstOf ((1 when not (wellFormed ws)) ∷ (3 when not (live (membersIn ws) n)) ∷ cs)
+unfolding memberRefusal
+causes-declined ws n cs h = go (not (wellFormed ws)) (not (live (membersIn ws) n)) h
+  where
+    go : (a b : Bool) → (firstOf ((1 when a) ∷ (3 when b) ∷ []) ≡ 0 → ⊥) → firstOf ((1 when a) ∷ (3 when b) ∷ []) ≡ firstOf ((1 when a) ∷ (3 when b) ∷ cs)
+    go true b h = refl
+    go false true h = refl
+    go false false h = absurd (h refl)
+
+-- and where neither does, they decide
+pub causes-left : (ws : List ℕ) (n : ℕ) (cs : List Cause) → memberRefusal ws n ≡ 0 → firstOf ((1 when not (wellFormed ws)) ∷ (3 when not (live (membersIn ws) n)) ∷ cs) ≡ firstOf cs
+unfolding memberRefusal
+causes-left ws n cs h = go (not (wellFormed ws)) (not (live (membersIn ws) n)) h
+  where
+    go : (a b : Bool) → firstOf ((1 when a) ∷ (3 when b) ∷ []) ≡ 0 → firstOf ((1 when a) ∷ (3 when b) ∷ cs) ≡ firstOf cs
+    go true b h = absurd (omega arith)
+    go false true h = absurd (omega arith)
+    go false false h = refl
 
 pub record MayLeave (ws : List ℕ) (n : ℕ) : Type 0 where
   pub is-member : live (membersIn ws) n ≡ true

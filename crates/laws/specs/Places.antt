@@ -1,6 +1,6 @@
 -- Rising identifiers by place: the next up from the one at a place stands at the next place, round the end, and so on for the next n.
 use mathlib.Core.Path.{_≡_, refl, ap}
-use mathlib.Core.Logic.{_⊎_, inl, inr}
+use mathlib.Core.Logic.{_⊎_, inl, inr, ⊎-elim}
 use mathlib.Core.List.{List, [], _∷_, _++_}
 use Prim.Native.Nat.{ℕ, zero, suc, _≤_, _<_}
 use native.Mathlib.Omega.{arith}
@@ -11,12 +11,23 @@ use Rattle.model.specs.Lists.{lastOf}
 use Rattle.model.specs.Ring.{firstAbove, lastBelow, nextUp, nextDown}
 use Rattle.model.specs.New.{nextUps}
 use Rattle.laws.specs.Order.{less?}
-use Rattle.laws.specs.Lists.{In, here, there, Rising, above-in}
+use Rattle.laws.specs.Lists.{In, here, there, in-cons, in-nil, Rising, above-in}
+use Rattle.laws.specs.Extended.{last-cons}
 
 pub place-in : (l : List ℕ) (k : ℕ) → k < length l → In (getD l k 0) l
 place-in [] k h = absurd (omega arith)
 place-in (y ∷ l) zero h = here refl
 place-in (y ∷ l) (suc k) h = there (place-in l k (omega arith))
+
+-- the first of rising identifiers is the lowest, the last the highest
+pub first-least : {q : ℕ} (xs : List ℕ) → Rising xs → In q xs → getD xs 0 0 ≤ q
+first-least [] a i = absurd (in-nil i)
+first-least (y ∷ l) a i = ⊎-elim (λ e. omega (arith, e)) (λ j. omega (arith, above-in l a j)) (in-cons i)
+
+pub last-most : {q : ℕ} (xs : List ℕ) → Rising xs → In q xs → q ≤ lastOf xs
+last-most [] a i = absurd (in-nil i)
+last-most (y ∷ []) a i = ⊎-elim (λ e. omega (arith, e)) (λ j. absurd (in-nil j)) (in-cons i)
+last-most {q} (y ∷ z ∷ l) a i = rw (last-cons y z l) (⊎-elim (λ e. omega (arith, e, a .0, last-most {q = z} (z ∷ l) (a .1) (here refl))) (λ j. last-most (z ∷ l) (a .1) j) (in-cons i))
 
 above-place : (l : List ℕ) (k d : ℕ) → Rising l → suc k < length l → firstAbove (getD l k 0) l d ≡ getD l (suc k) 0
 above-place [] k d a h = absurd (omega arith)

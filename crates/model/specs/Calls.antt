@@ -12,7 +12,8 @@ use Rattle.model.specs.New.{newTable}
 use Rattle.model.specs.Findings.{Finding, findings}
 use Rattle.model.specs.Alike.{alike}
 use Rattle.model.specs.Image.{imageOf, tableIn}
-use Rattle.model.specs.Refusals.{joinRefusal, memberRefusal, leaveRefusal, auditRefusal, findingsRefusal, alikeRefusal, newRefusal, writeRefusal, readRefusal}
+use Rattle.model.specs.Held.{runsOf, bounds}
+use Rattle.model.specs.Refusals.{joinRefusal, memberRefusal, leaveRefusal, auditRefusal, findingsRefusal, alikeRefusal, newRefusal, writeRefusal, readRefusal, heldRefusal}
 
 -- a slice with the table T in the place of its old table, and all later words as they were
 abbrev pub written : Table → List ℕ → List ℕ
@@ -108,3 +109,8 @@ readAnswer ws bs = answer (readRefusal (length ws) bs) (accepted (length (tableI
 
 unfoldable pub readWords : List ℕ → List ℕ → List ℕ
 readWords ws bs = afterwards (readRefusal (length ws) bs) (written (tableIn bs) ws) ws
+
+-- The keys that a member holds; it writes nothing
+
+unfoldable pub heldAnswer : List ℕ → ℕ → List ℕ → Answer
+heldAnswer ws n ks = answer (heldRefusal ws n ks) (accepted (bounds (runsOf (membersIn ws) n ks)))

@@ -1,4 +1,4 @@
--- Document 01, "Table of settled examples": one statement over a list of cases, computed.
+-- Document 01, "Table of settled examples": one statement over a list of cases, computed. Then the runs of document 02's Req 01 on one table.
 use Prim.Native.Nat.{ℕ}
 use mathlib.Core.Path.{_≡_, refl}
 use mathlib.Core.List.{List, [], _∷_, _++_, map}
@@ -9,8 +9,9 @@ use Rattle.model.specs.Table.{membersIn, wordsOf, wellFormed, formed, fo
 use Rattle.model.specs.Ring.{named, sound, candidateInside}
 use Rattle.model.specs.Steps.{stabilize, stabilizeReply, nextStep}
 use Rattle.model.specs.New.{newTable}
-use Rattle.model.specs.Refusals.{newRefusal, noNewTable, memberRefusal, leaveRefusal, cutsOff, tooFewPrincipals}
-use Rattle.model.specs.Calls.{stabilizeAnswer, stabilizeWords, newAnswer, newWords, leaveAnswer}
+use Rattle.model.specs.Held.{runsOf}
+use Rattle.model.specs.Refusals.{newRefusal, noNewTable, memberRefusal, leaveRefusal, cutsOff, tooFewPrincipals, heldRefusal}
+use Rattle.model.specs.Calls.{stabilizeAnswer, stabilizeWords, newAnswer, newWords, leaveAnswer, heldAnswer}
 
 -- a case: what the definitions compute, and what document 01 says
 pub record Case : Type 0 where
@@ -53,3 +54,20 @@ cases =
 pub settled : map (λ c. c .computed) cases ≡ map (λ c. c .expected) cases
 unfolding between after sound candidateInside stabilize stabilizeReply nextStep stabilizeAnswer stabilizeWords memberRefusal newAnswer newWords newRefusal noNewTable leaveAnswer leaveRefusal cutsOff tooFewPrincipals wellFormed formed formedMember
 settled = refl
+
+-- keys on and beside the members of (h), which are 10, 20 and 30: 5 and 10 belong to 10, 11 and 20 to 20, none to 30, and 31 to 10 again
+abbrev pub keysH : List ℕ
+keysH = 5 ∷ 10 ∷ 11 ∷ 20 ∷ 31 ∷ []
+
+-- start and end of each run: of the lowest member two, also where it is the only one; and keys that do not rise, 12
+abbrev pub heldCases : List Case
+heldCases =
+    (heldAnswer tableH 10 keysH .values gives 4 ∷ 5 ∷ 0 ∷ 2 ∷ []) ∷
+    (heldAnswer tableH 20 keysH .values gives 2 ∷ 4 ∷ []) ∷
+    (heldAnswer tableH 30 keysH .values gives 4 ∷ 4 ∷ []) ∷
+    (heldAnswer (lone (7 ∷ [])) 50 keysH .values gives 5 ∷ 5 ∷ 0 ∷ 5 ∷ []) ∷
+    (heldAnswer tableH 10 (5 ∷ 5 ∷ []) .number ∷ [] gives 12 ∷ []) ∷ []
+
+pub held : map (λ c. c .computed) heldCases ≡ map (λ c. c .expected) heldCases
+unfolding heldAnswer heldRefusal runsOf newWords newRefusal noNewTable wellFormed formed formedMember
+held = refl

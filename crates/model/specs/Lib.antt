@@ -1,4 +1,4 @@
--- Document 01 as definitions, in its order.
+-- Document 01 as definitions, in its order, and then what document 02 adds: Held.
 pub mod Lists
 pub mod Identifier
 pub mod Table
@@ -10,6 +10,7 @@ pub mod Findings
 pub mod Alike
 pub mod TakeOver
 pub mod Image
+pub mod Held
 pub mod Refusals
 pub mod Calls
 pub mod Run

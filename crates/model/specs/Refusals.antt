@@ -85,3 +85,10 @@ unfoldable pub readRefusal : ℕ → List ℕ → ℕ
 readRefusal n bs = firstOf (
     (9 when not (isImage bs)) ∷
     (10 when ltb n (size (tableIn bs))) ∷ [])
+
+-- the keys ks that the member n holds
+unfoldable pub heldRefusal : List ℕ → ℕ → List ℕ → ℕ
+heldRefusal ws n ks = firstOf (
+    (1 when not (wellFormed ws)) ∷
+    (3 when not (live (membersIn ws) n)) ∷
+    (12 when not (rising ks)) ∷ [])

@@ -1,10 +1,12 @@
-// Rising identifiers: whether they rise, and the places of each one's neighbours, round the end. For `start`; a caller of the library uses none of this.
+// Rising identifiers: whether they rise, the places of each one's neighbours, round the end, and how many are at or below another.
+// For `start` and `held`; a caller of the library uses none of this.
 ghost use mathlib.Core.Path.{_≡_};
 ghost use mathlib.Core.Bool.{true};
 ghost use Prim.Native.Nat.{_<_};
 ghost use lib.ListN.{length, getD};
 ghost use Rattle.model.specs.Lists.{rising};
 ghost use Rattle.model.specs.Ring.{nextUp, nextDown};
+ghost use Rattle.model.specs.Held.{keysTo};
 
 // Do the identifiers strictly rise?
 pub fn is_rising(xs: &[u32]) -> bool
@@ -42,4 +44,22 @@ pub fn place_below(xs: &[u32], i: usize) -> usize
         return xs.len() - 1;
     }
     i - 1
+}
+
+// How many of rising keys are at or below x, by halves.
+pub fn keys_to(ks: &[u32], x: u32) -> usize
+    requires { ⌜ rising (now ks) ≡ true ⌝ }
+    ensures { λ n. ⌜ n ≡ keysTo (now (ks .entry)) x ⌝ }
+{
+    let mut lo: usize = 0;
+    let mut hi = ks.len();
+    while lo < hi {
+        let mid = lo + (hi - lo) / 2;
+        if ks[mid] <= x {
+            lo = mid + 1;
+        } else {
+            hi = mid;
+        }
+    }
+    lo
 }

@@ -12,6 +12,7 @@ pub mod Losses
 pub mod New
 pub mod Lookup
 pub mod Owners
+pub mod Held
 pub mod Moves
 pub mod Images
 pub mod Demand3

@@ -15,7 +15,7 @@ use Rattle.model.specs.Ring.{live, successor, skips, principal, hasLive, candid
 use Rattle.model.specs.New.{nextUps, newMember, newTable}
 use Rattle.model.specs.Refusals.{noNewTable, newRefusal}
 use Rattle.model.specs.Calls.{newWords}
-use Rattle.laws.specs.Places.{next-ups-length}
+use Rattle.laws.specs.Places.{next-ups-length, first-least}
 use Rattle.laws.specs.Order.{Outside, below, beyond, rest, outside-false}
 use Rattle.laws.specs.Lists.{and-true, true-and, In, here, there, in-cons, in-nil, in-live, every-in, in-every, in-any, count-le, count-all, Rising, above-in, above-rising, rising-true}
 use Rattle.laws.specs.Tables.{Formed, FormedMember, Sound, facts-sound, formed-lists}
@@ -56,6 +56,9 @@ above-spares x d q (y ∷ l) a i h = go (ltb x y) refl (in-cons i) (first-above 
     go false e (inl p) (inr f) ih = rest (omega arith) (omega (arith, ltb-false x y e))
     go false e (inr j) f ih = ih j
 
+pub up-spares : (xs : List ℕ) → Rising xs → (x q : ℕ) → In q xs → Outside x q (nextUp xs x)
+up-spares xs a x q i = above-spares x (getD xs 0 0) q xs a i (first-least xs a i)
+
 -- The records of the new table
 
 map-ids : (r : ℕ) (xs l : List ℕ) → ids (map (newMember r xs) l) ≡ l
@@ -66,13 +69,8 @@ in-map : {A B : Type 0} (f : A → B) {y : B} (l : List A) → In y (map f l) �
 in-map f [] i = absurd (in-nil i)
 in-map f (x ∷ l) i = ⊎-elim (λ e. (x, here refl, e)) (λ j. let w = in-map f l j in (w .0, there (w .1), w .2)) (in-cons i)
 
--- the first of rising numbers is the lowest
-lowest : (q : ℕ) (xs : List ℕ) → Rising xs → In q xs → getD xs 0 0 ≤ q
-lowest q [] a i = absurd (in-nil i)
-lowest q (y ∷ l) a i = ⊎-elim (λ e. omega (arith, e)) (λ j. omega (arith, above-in l a j)) (in-cons i)
-
 module _ (xs : List ℕ) (some : 1 ≤ length xs) where
-  up-in : (x : ℕ) → In (nextUp xs x) xs
+  pub up-in : (x : ℕ) → In (nextUp xs x) xs
   up-in x = ⊎-elim (λ i. i .0) (λ e. rw e (head-in xs some)) (first-above x xs (getD xs 0 0))
 
   down-in : (x : ℕ) → In (nextDown xs x) xs
@@ -85,7 +83,7 @@ module _ (xs : List ℕ) (some : 1 ≤ length xs) where
 -- the next members up skip none
 ups-skip : (xs : List ℕ) → Rising xs → (n x q : ℕ) → In q xs → skips q x (nextUps n xs x) ≡ false
 ups-skip xs a zero x q i = refl
-ups-skip xs a (suc n) x q i = rw (outside-false (above-spares x (getD xs 0 0) q xs a i (lowest q xs a i))) (ups-skip xs a n (nextUp xs x) q i)
+ups-skip xs a (suc n) x q i = rw (outside-false (up-spares xs a x q i)) (ups-skip xs a n (nextUp xs x) q i)
 
 first-up : (r : ℕ) (xs : List ℕ) (x : ℕ) → 1 ≤ r → successor (newMember r xs x) ≡ nextUp xs x
 first-up zero xs x h = absurd (omega arith)

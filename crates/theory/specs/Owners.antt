@@ -32,7 +32,7 @@ pub record OneOwner (ws : List ℕ) (n m k : ℕ) : Type 0 where
   pub from-m : Finds ws m k owner
 
 -- k belongs to b on the move from q to b
-abbrev Owns : ℕ → ℕ → ℕ → Type 0
+abbrev pub Owns : ℕ → ℕ → ℕ → Type 0
 Owns q k b = (k ≡ b) ⊎ (between q k b ≡ true)
 
 -- Of two moves that own the key and pass none of each other's ends, the ends are one

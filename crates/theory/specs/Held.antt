@@ -1,0 +1,262 @@
+-- The objects a shelf holds: each key lies in exactly one run of exactly one member, its holder; and on an ideal table find gives the holder as owner.
+use mathlib.Core.Path.{_≡_, refl, sym, ap, _∙_}
+use mathlib.Core.Logic.{_⊎_, inl, inr, ⊎-elim}
+use mathlib.Core.Bool.{Bool, true, false, _&&_, and-true as and-one}
+use mathlib.Core.List.{List, [], _∷_}
+use mathlib.Core.Option.{some, none}
+use Prim.Native.Nat.{ℕ, suc, _+_, _≤_, _<_}
+use native.Mathlib.Omega.{arith}
+use lib.Dec.{ltb, leb, eqb, leb·zero}
+use lib.ListN.{length, getD}
+use borrow.Author.Tests.{lt-ltb, le-ltb, le-leb, lt-leb, eq-eqb, ne-eqb, eqb-true, leb-true}
+use Rattle.model.specs.Lists.{if_then_else_, bit, rising, lastOf}
+use Rattle.model.specs.Identifier.{space, between}
+use Rattle.model.specs.Table.{Member, Table, tableOf, membersIn, ids, wellFormed}
+use Rattle.model.specs.Ring.{live, named, successor, bestSuccessor, firstLive, lastBelow, nextUp, nextDown, idealMember, ideal}
+use Rattle.model.specs.Held.{firstFrom, lowest, holder, keysTo, Run, _upTo_, runsOf}
+use Rattle.model.specs.Calls.{lookupAnswer}
+use Rattle.laws.specs.Order.{Comparison, less, equals, greater, compare, less?, equal?, Inside, mid, high, low, Outside, below, beyond, rest, inside-true, true-inside, inside-outside}
+use Rattle.laws.specs.Lists.{and-true, In, here, there, in-cons, in-nil, every-in, count-le, count-length, Above, Rising, rising-true, above-in, above-rising, length-ids, found, live-in, in-live}
+use Rattle.laws.specs.Extended.{head-in, last-in}
+use Rattle.laws.specs.Places.{first-least, last-most}
+use Rattle.laws.specs.Keys.{key-below, key-above}
+use Rattle.laws.specs.Accepted.{member-accepts}
+use Rattle.laws.specs.Tables.{Formed, wellFormed-facts}
+use Rattle.theory.specs.New.{up-in, up-spares}
+use Rattle.theory.specs.Lookup.{Owned, CutOff, Answered, lookupAnswer-answers}
+use Rattle.theory.specs.Owners.{Finds, Owns}
+
+-- The statement
+
+-- the position p lies in the run
+abbrev pub lies : ℕ → Run → Bool
+lies p u = leb (u .start) p && ltb p (u .end)
+
+-- how many of the runs it lies in
+abbrev pub runsAt : ℕ → List Run → ℕ
+runsAt p [] = 0
+runsAt p (u ∷ us) = bit (lies p u) + runsAt p us
+
+-- the members' runs part the positions of the keys: each key's holder is a member; each position lies in one run of its key's holder, and in
+-- none of any other member; and no run ends before it starts or past the list
+pub record Parted (ms : List Member) (ks : List ℕ) : Type 0 where
+  pub holder-live : (k : ℕ) → live ms (holder ms k) ≡ true
+  pub in-one : (p : ℕ) → p < length ks → (x : ℕ) → live ms x ≡ true → runsAt p (runsOf ms x ks) ≡ bit (eqb x (holder ms (getD ks p 0)))
+  pub within : (x : ℕ) → live ms x ≡ true → (u : Run) → In u (runsOf ms x ks) → (u .start ≤ u .end) × (u .end ≤ length ks)
+
+in-some : {y : ℕ} {l : List ℕ} → In y l → 1 ≤ length l
+in-some (here e) = omega arith
+in-some (there m) = omega arith
+
+-- The member before another
+
+-- the last below x of rising numbers y ∷ l, where y is below x: one of them, and none lies between it and x
+abbrev Last : ℕ → ℕ → List ℕ → Type 0
+Last x y l = In (lastBelow x l y) (y ∷ l) × (lastBelow x l y < x) × ((q : ℕ) → In q (y ∷ l) → (q ≤ lastBelow x l y) ⊎ (x ≤ q))
+
+last-below : (x y : ℕ) (l : List ℕ) → Above y l → y < x → Last x y l
+last-below x y [] a h = (here refl, h, λ q i. ⊎-elim (λ e. inl (omega (arith, e))) (λ j. absurd (in-nil j)) (in-cons i))
+last-below x y (z ∷ l) a h = go (less? z x) (last-below x z l (a .1))
+  where
+    go : (z < x) ⊎ (x ≤ z) → (z < x → Last x z l) → Last x y (z ∷ l)
+    go (inl k) ih =
+        let w = ih k in
+        let up : z ≤ lastBelow x l z = ⊎-elim (λ g. g) (λ g. absurd (omega arith)) (w .2 z (here refl)) in
+        rw (lt-ltb z x k) (there (w .0), w .1, λ q i. ⊎-elim (λ e. inl (omega (arith, e, a .0))) (w .2 q) (in-cons i))
+    go (inr k) ih = rw (le-ltb z x k) (here refl, h, λ q i. ⊎-elim (λ e. inl (omega (arith, e))) (λ j. inr (⊎-elim (λ e. omega (arith, e)) (λ g. omega (arith, above-in l (a .1) g)) (in-cons j))) (in-cons i))
+
+-- the next down from one of them is one of them, and the way up from it passes none
+next-down : (x : ℕ) (xs : List ℕ) → Rising xs → In x xs → In (nextDown xs x) xs × ((z : ℕ) → In z xs → Outside (nextDown xs x) z x)
+next-down x [] a i = absurd (in-nil i)
+next-down x (y ∷ l) a i = go (less? y x)
+  where
+    go : (y < x) ⊎ (x ≤ y) → In (nextDown (y ∷ l) x) (y ∷ l) × ((z : ℕ) → In z (y ∷ l) → Outside (nextDown (y ∷ l) x) z x)
+    go (inl h) = let w = last-below x y l a h in rw (lt-ltb y x h) (w .0, λ z j. ⊎-elim (λ g. below g (w .1)) (λ g. beyond (w .1) g) (w .2 z j))
+    go (inr h) = rw (le-ltb y x h) (last-in (y ∷ l) (omega arith), λ z j. rest (omega (arith, first-least (y ∷ l) a j)) (last-most (y ∷ l) a j))
+
+-- The first at or above a key
+
+first-from : (k z d : ℕ) (xs : List ℕ) → Rising xs → In z xs → k ≤ z → ((u : ℕ) → In u xs → u < z → u < k) → firstFrom k xs d ≡ z
+first-from k z d [] a i h lower = absurd (in-nil i)
+first-from k z d (y ∷ l) a i h lower = go (less? y k) (in-cons i) (λ j. first-from k z d l (above-rising y l a) j h (λ u g. lower u (there g)))
+  where
+    go : (y < k) ⊎ (k ≤ y) → (z ≡ y) ⊎ In z l → (In z l → firstFrom k l d ≡ z) → firstFrom k (y ∷ l) d ≡ z
+    go (inl g) (inl e) ih = absurd (omega arith)
+    go (inl g) (inr j) ih = rw (lt-leb k y g) (ih j)
+    go (inr g) (inl e) ih = rw (le-leb k y g) (sym e)
+    go (inr g) (inr j) ih = absurd (omega (arith, lower y (here refl) (above-in l a j)))
+
+none-from : (k d : ℕ) (xs : List ℕ) → ((u : ℕ) → In u xs → u < k) → firstFrom k xs d ≡ d
+none-from k d [] h = refl
+none-from k d (y ∷ l) h = rw (lt-leb k y (h y (here refl))) (none-from k d l (λ u g. h u (there g)))
+
+-- it is one of them, and all below it are below the key; or all are
+abbrev First : ℕ → ℕ → List ℕ → Type 0
+First k d xs = (In (firstFrom k xs d) xs × (k ≤ firstFrom k xs d) × ((u : ℕ) → In u xs → u < firstFrom k xs d → u < k)) ⊎ (((u : ℕ) → In u xs → u < k) × (firstFrom k xs d ≡ d))
+
+from-first : (k d : ℕ) (xs : List ℕ) → Rising xs → First k d xs
+from-first k d [] a = inr (λ u i. absurd (in-nil i), refl)
+from-first k d (y ∷ l) a = go (less? y k) (from-first k d l (above-rising y l a))
+  where
+    go : (y < k) ⊎ (k ≤ y) → First k d l → First k d (y ∷ l)
+    go (inr g) ih = rw (le-leb k y g) (inl (here refl, g, λ u i h. ⊎-elim (λ e. absurd (omega arith)) (λ j. absurd (omega (arith, above-in l a j))) (in-cons i)))
+    go (inl g) (inl w) = rw (lt-leb k y g) (inl (there (w .0), w .1, λ u i h. ⊎-elim (λ e. omega (arith, e)) (λ j. w .2 u j h) (in-cons i)))
+    go (inl g) (inr w) = rw (lt-leb k y g) (inr (λ u i. ⊎-elim (λ e. omega (arith, e)) (λ j. w .0 u j) (in-cons i), w .1))
+
+-- A member x of rising numbers and the one before it, d: x holds the keys on the way from d to x
+
+up-to : (d k x : ℕ) → k ≤ x → (k < x → Inside d k x) → Owns d k x
+up-to d k x h f = go (compare k x)
+  where
+    go : Comparison k x → Owns d k x
+    go (less q) = inr (inside-true (f q))
+    go (equals e) = inl e
+    go (greater q) = absurd (omega arith)
+
+not-owns : {d k x : ℕ} → Outside d k x → (k ≡ x → ⊥) → Owns d k x → ⊥
+not-owns o n (inl e) = n e
+not-owns {d} {k} {x} o n (inr t) = inside-outside (true-inside d k x t) o
+
+module _ (xs : List ℕ) (a : Rising xs) (d x : ℕ) (i : In x xs) (spares : (z : ℕ) → In z xs → Outside d z x) where
+  -- where d is below x, all others are at or below d or from x on; else all are from x to d, and x is the lowest
+  apart : {z : ℕ} → Outside d z x → d < x → z < x → z ≤ d
+  apart (below g h) l m = g
+  apart (beyond g h) l m = absurd (omega arith)
+  apart (rest g h) l m = absurd (omega arith)
+
+  round : {z : ℕ} → Outside d z x → x ≤ d → (x ≤ z) × (z ≤ d)
+  round (below g h) l = absurd (omega arith)
+  round (beyond g h) l = absurd (omega arith)
+  round (rest g h) l = (g, h)
+
+  is-lowest : x ≤ d → getD xs 0 0 ≡ x
+  is-lowest l = omega (arith, first-least xs a i, round (spares (getD xs 0 0) (head-in xs (in-some i))) l .0)
+
+  pub owner-holds : (k : ℕ) → Owns d k x → firstFrom k xs (getD xs 0 0) ≡ x
+  owner-holds k (inl e) = first-from k x (getD xs 0 0) xs a i (omega (arith, e)) (λ u j h. omega (arith, e))
+  owner-holds k (inr t) = go (true-inside d k x t)
+    where
+      go : Inside d k x → firstFrom k xs (getD xs 0 0) ≡ x
+      go (mid g h) = first-from k x (getD xs 0 0) xs a i (omega arith) (λ u j m. omega (arith, apart (spares u j) (omega arith) m))
+      go (high g h) = none-from k (getD xs 0 0) xs (λ u j. omega (arith, round (spares u j) g .1)) ∙ is-lowest g
+      go (low g h) = first-from k x (getD xs 0 0) xs a i (omega arith) (λ u j m. absurd (omega (arith, round (spares u j) h .0)))
+
+  pub holder-owns : (k : ℕ) → In d xs → firstFrom k xs (getD xs 0 0) ≡ x → Owns d k x
+  holder-owns k j e = go (from-first k (getD xs 0 0) xs a) (less? d x)
+    where
+      go : First k (getD xs 0 0) xs → (d < x) ⊎ (x ≤ d) → Owns d k x
+      go (inl w) (inl l) = up-to d k x (omega (arith, w .1)) (λ q. mid (w .2 d j (omega arith)) q)
+      go (inl w) (inr l) = up-to d k x (omega (arith, w .1)) (λ q. low q l)
+      go (inr w) l = inr (inside-true (high (omega (arith, w .1, first-least xs a j)) (w .0 d j)))
+
+-- The runs of one member
+
+module _ (ms : List Member) (ks : List ℕ) (am : Rising (ids ms)) (ak : Rising ks) (x : ℕ) (i : In x (ids ms)) where
+  abbrev d : ℕ
+  d = nextDown (ids ms) x
+
+  -- the lowest has the last before it, any other a lower one
+  lowest-round : x ≡ lowest ms → x ≤ d
+  lowest-round e = omega (arith, e, first-least (ids ms) am (next-down x (ids ms) am i .0))
+
+  else-below : (x ≡ lowest ms → ⊥) → d < x
+  else-below n = ⊎-elim (λ h. h) (λ h. absurd (n (sym (is-lowest (ids ms) am d x i (next-down x (ids ms) am i .1) h)))) (less? d x)
+
+  owned : (k : ℕ) → Owns d k x → eqb x (holder ms k) ≡ true
+  owned k o = eq-eqb x (holder ms k) (sym (owner-holds (ids ms) am d x i (next-down x (ids ms) am i .1) k o))
+
+  other : (k : ℕ) → (Owns d k x → ⊥) → eqb x (holder ms k) ≡ false
+  other k n = let w = next-down x (ids ms) am i in ne-eqb x (holder ms k) (λ e. n (holder-owns (ids ms) am d x i (w .1) k (w .0) (sym e)))
+
+  module _ (p : ℕ) (h : p < length ks) where
+    abbrev key : ℕ
+    key = getD ks p 0
+
+    at-lowest : x ≤ d → bit (ltb d key) + (bit (leb key x) + 0) ≡ bit (eqb x (holder ms key))
+    at-lowest l = go (less? d key) (less? x key)
+      where
+        go : (d < key) ⊎ (key ≤ d) → (x < key) ⊎ (key ≤ x) → bit (ltb d key) + (bit (leb key x) + 0) ≡ bit (eqb x (holder ms key))
+        go (inl u) v = rw (owned key (inr (inside-true (high l u))), lt-ltb d key u, lt-leb key x (omega arith))
+        go (inr u) (inl v) = rw (other key (not-owns (rest (omega arith) u) (omega arith)), le-ltb d key u, lt-leb key x v)
+        go (inr u) (inr v) = rw (owned key (up-to d key x v (λ q. low q l)), le-ltb d key u, le-leb key x v)
+
+    elsewhere : d < x → bit (ltb d key && leb key x) + 0 ≡ bit (eqb x (holder ms key))
+    elsewhere l = go (less? d key) (less? x key)
+      where
+        go : (d < key) ⊎ (key ≤ d) → (x < key) ⊎ (key ≤ x) → bit (ltb d key && leb key x) + 0 ≡ bit (eqb x (holder ms key))
+        go (inl u) (inl v) = rw (other key (not-owns (beyond l (omega arith)) (omega arith)), lt-ltb d key u, lt-leb key x v)
+        go (inl u) (inr v) = rw (owned key (up-to d key x v (λ q. mid u q)), lt-ltb d key u, le-leb key x v)
+        go (inr u) v = rw (other key (not-owns (below u l) (omega arith)), le-ltb d key u)
+
+    pub in-one-run : runsAt p (runsOf ms x ks) ≡ bit (eqb x (holder ms key))
+    unfolding runsOf
+    in-one-run =
+        ⊎-elim
+        (λ e. rw (eq-eqb x (lowest ms) e, key-above ks d p ak h, lt-ltb p (length ks) h, key-below ks x p ak h, and-one, leb·zero p) (at-lowest (lowest-round e)))
+        (λ n. rw (ne-eqb x (lowest ms) n, key-above ks d p ak h, key-below ks x p ak h) (elsewhere (else-below n)))
+        (equal? x (lowest ms))
+
+  run-within : (u : Run) → In u (runsOf ms x ks) → (u .start ≤ u .end) × (u .end ≤ length ks)
+  unfolding runsOf
+  run-within u j = ⊎-elim (λ e. lowest-runs (rw (eq-eqb x (lowest ms) e) at j)) (λ n. other-run (else-below n) (rw (ne-eqb x (lowest ms) n) at j)) (equal? x (lowest ms))
+    where
+      most : (y : ℕ) → keysTo ks y ≤ length ks
+      most y = count-length (λ k. leb k y) ks
+
+      lowest-runs : In u ((keysTo ks d upTo length ks) ∷ (0 upTo keysTo ks x) ∷ []) → (u .start ≤ u .end) × (u .end ≤ length ks)
+      lowest-runs (here e) = rw e (most d, omega arith)
+      lowest-runs (there (here e)) = rw e (omega arith, most x)
+      lowest-runs (there (there m)) = absurd (in-nil m)
+
+      other-run : d < x → In u ((keysTo ks d upTo keysTo ks x) ∷ []) → (u .start ≤ u .end) × (u .end ≤ length ks)
+      other-run l (here e) = rw e (count-le (λ k. leb k d) (λ k. leb k x) ks (λ k m t. le-leb k x (omega (arith, leb-true k d t))), most x)
+      other-run l (there m) = absurd (in-nil m)
+
+-- On a well-formed table with a member, the runs of rising keys part their positions
+
+pub held-parts : (ws ks : List ℕ) → wellFormed ws ≡ true → 1 ≤ length (membersIn ws) → rising ks ≡ true → Parted (membersIn ws) ks
+held-parts ws ks wf one r =
+    let ms : List Member = membersIn ws in
+    let am = wellFormed-facts ws wf .table .ids-rising in
+    let ak = rising-true ks r in
+    record {
+      holder-live = λ k. in-live ms (⊎-elim (λ w. w .0) (λ w. rw (w .1) (head-in (ids ms) (omega (arith, length-ids ms)))) (from-first k (lowest ms) (ids ms) am));
+      in-one = λ p h x l. in-one-run ms ks am ak x (live-in ms x l) p h;
+      within = λ x l. run-within ms ks am ak x (live-in ms x l);
+    }
+
+-- On an ideal table find gives the holder
+
+ideal-successor : (T : Table) → ideal T ≡ true → {m : Member} → In m (T .members) → successor m ≡ nextUp (ids (T .members)) (m .id)
+unfolding ideal idealMember
+ideal-successor T h i = eqb-true _ _ (and-true _ _ (every-in (idealMember (ids (T .members))) h i) .0)
+
+head-live : (ms : List Member) (l : List ℕ) → 1 ≤ length l → live ms (getD l 0 0) ≡ true → firstLive ms l ≡ some (getD l 0 0)
+head-live ms [] h e = absurd (omega arith)
+head-live ms (x ∷ l) h e = rw e
+
+ideal-best : (w : ℕ) (T : Table) → Formed w T → ideal T ≡ true → {q : ℕ} → In q (ids (T .members)) → bestSuccessor (T .members) q ≡ some (nextUp (ids (T .members)) q)
+ideal-best w T fo h {q} i =
+    let ms : List Member = T .members in
+    let f = found ms i in
+    let s : successor (named ms q) ≡ nextUp (ids ms) q = ideal-successor T h (f .0) ∙ ap (nextUp (ids ms)) (f .1) in
+    let l : live ms (successor (named ms q)) ≡ true = rw s (in-live ms (up-in (ids ms) (in-some i) q)) in
+    head-live ms (named ms q .successors) (omega (arith, fo .each (named ms q) (f .0) .list-length, fo .r-low)) l ∙ ap some s
+
+module _ (ws : List ℕ) (wf : wellFormed ws ≡ true) (h : ideal (tableOf ws) ≡ true) where
+  fo : Formed space (tableOf ws)
+  fo = wellFormed-facts ws wf .table
+
+  moves-up : (q : ℕ) → live (membersIn ws) q ≡ true → bestSuccessor (membersIn ws) q ≡ some (nextUp (ids (membersIn ws)) q)
+  moves-up q l = ideal-best space (tableOf ws) fo h (live-in (membersIn ws) q l)
+
+  -- from every member, for every key
+  pub finds-holder : (n k : ℕ) → live (membersIn ws) n ≡ true → Finds ws n k (holder (membersIn ws) k)
+  finds-holder n k l = go (lookupAnswer-answers ws n k (member-accepts ws n wf l))
+    where
+      go : Answered (membersIn ws) n k (lookupAnswer ws n k) → Finds ws n k (holder (membersIn ws) k)
+      go (inl o) =
+          let up : nextUp (ids (membersIn ws)) (o .q) ≡ o .b = cc (moves-up (o .q) (o .place-live), o .move) in
+          let e = owner-holds (ids (membersIn ws)) (fo .ids-rising) (o .q) (o .b) (live-in (membersIn ws) (o .b) (o .owner-live)) (λ z j. rw up at (up-spares (ids (membersIn ws)) (fo .ids-rising) (o .q) z j)) k (o .owns) in
+          record { place = o .q; moves = o .moves; answer = rw e (o .answer) }
+      go (inr c) = let z : _≡_ {A = ℕ} 0 1 = cc (moves-up (c .q) (c .place-live), c .no-move) in absurd (omega arith)
