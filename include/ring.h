@@ -6,11 +6,13 @@
    belong to nobody: a join takes the next r + 4 of them, a loss or a withdrawal makes the r + 4 that it frees 0. Keep nothing there.
 
    Slices. A call reads and writes nothing outside the slices it is lent, returns for every input, and never keeps a pointer. What the
-   caller owes: no pointer is null, also where a count is 0; pointers to words and to findings are aligned for uint32_t; each slice has as
-   many elements as its count says; slices of one call do not overlap where one of them is written; nobody else writes a slice during a call.
+   caller owes: no pointer is null, also where a count is 0; pointers to words, to keys and to findings are aligned for uint32_t; each slice
+   has as many elements as its count says; slices of one call do not overlap where one of them is written; nobody else writes a slice during
+   a call.
 
    Answers. number is 0, and the first count of the values are the reply, the others 0; or number is the refusal below, and then every
-   buffer is as it was. The lowest number that applies is given, but ring_new tries 11 before 10.
+   buffer is as it was. ring_held has a struct of its own: number is 0, and the first runs of start and of end are the reply, the others 0;
+   or number is the refusal, and the rest is 0. The lowest number that applies is given, but ring_new tries 11 before 10.
 
       1  a table is not well-formed or longer than its slice
       2  the joining identifier is a member
@@ -23,6 +25,7 @@
       9  the image is not the writing of a well-formed table; or no such field stands at the position
      10  the output slice is too short
      11  new: r not 1 to 8, identifiers not strictly rising, fewer than r + 1, more than 256
+     12  held: the keys are not strictly rising
 
    One ring. The promise is about seven calls: ring_join, ring_leave, ring_fail, ring_stabilize, ring_rectify, ring_lookup and ring_audit.
    From a sound table (ring_audit's verdict 1 or 2) every list of them, refused ones included, leads to a sound table, and on a sound table
@@ -41,6 +44,7 @@
       ring_fail         128
       ring_leave      14080
       ring_lookup       192
+      ring_held         128
       ring_audit       2816
       ring_findings    3840
       ring_alike        128
@@ -81,6 +85,15 @@ struct ring_finding {
     uint32_t moves;
 };
 
+/* What ring_held answers: its number, and as many runs of positions in the list of keys as runs says. A run goes from the position start to
+   the one before end, and is empty where the two are equal. Positions count from 0. */
+struct ring_runs {
+    uint32_t number;
+    uint32_t runs;
+    size_t start[2];
+    size_t end[2];
+};
+
 /* The new, ideal table of r and count strictly rising identifiers, step count 0. The old words are never looked at; words after the last
    record stay. values: member count. 11, 10. */
 struct ring_answer ring_new(uint32_t *table, size_t words, uint32_t r, const uint32_t *ids, size_t count);
@@ -108,6 +121,13 @@ struct ring_answer ring_leave(uint32_t *table, size_t words, uint32_t n);
 
 /* Find key k from the member n. values: owner, the member it was found at, moves made. Nothing is written. 1, 3, 8. */
 struct ring_answer ring_lookup(const uint32_t *table, size_t words, uint32_t n, uint32_t k);
+
+/* The keys that the member n holds, of count strictly rising keys; no key and one key count as rising. A key is held by the first member at
+   or above it, a key above the last member by the lowest. runs: one, from the number of keys at or below the next lower member to the number
+   at or below n; or two for the lowest member, also where it is the only one: from the number at or below the last member to count, then
+   from 0 to the number at or below n. Each key is in exactly one member's runs; where ring_audit's verdict is 2, ring_lookup gives that
+   member as the key's owner from every member. Nothing is written. 1, 3, 12. */
+struct ring_runs ring_held(const uint32_t *table, size_t words, uint32_t n, const uint32_t *keys, size_t count);
 
 /* values: members, principals, ring members, verdict (0 not sound, 1 sound, 2 sound and ideal). Nothing is written. 1. */
 struct ring_answer ring_audit(const uint32_t *table, size_t words);

@@ -1,8 +1,8 @@
 //! What is measured: a call, the buffers that it is made on, and the answer that it must give.
 
-#[cfg(feature = "whole")]
-use crate::same::Finding;
 use crate::same::{answer, Answer};
+#[cfg(feature = "whole")]
+use crate::same::{Finding, Runs};
 use crate::{library, same};
 use std::hint::black_box;
 
@@ -31,6 +31,9 @@ pub enum Call {
     Lookup,
     Audit,
     Alike,
+    /// With so many keys.
+    #[cfg(feature = "whole")]
+    Held(usize),
     #[cfg(feature = "whole")]
     Findings,
     #[cfg(feature = "whole")]
@@ -55,6 +58,10 @@ pub const CALLS: &[(&str, Call)] = &[
     ("audit", Call::Audit),
     ("alike", Call::Alike),
     #[cfg(feature = "whole")]
+    ("held-100-keys", Call::Held(100)),
+    #[cfg(feature = "whole")]
+    ("held-10000-keys", Call::Held(10_000)),
+    #[cfg(feature = "whole")]
     ("findings", Call::Findings),
     #[cfg(feature = "whole")]
     ("image-write", Call::ImageWrite),
@@ -68,6 +75,8 @@ pub struct Case {
     pub table: Vec<u32>,
     other: Vec<u32>,
     ids: Vec<u32>,
+    #[cfg(feature = "whole")]
+    keys: Vec<u32>,
     #[cfg(feature = "whole")]
     findings: Vec<Finding>,
     #[cfg(feature = "whole")]
@@ -89,6 +98,26 @@ fn identifiers(count: usize) -> Vec<u32> {
         .collect()
 }
 
+/// Strictly rising keys, evenly spread over the identifiers.
+#[cfg(feature = "whole")]
+fn rising_keys(count: usize) -> Vec<u32> {
+    let gap = (1 << 32) / count as u64;
+    (0..count as u64)
+        .map(|i| (i * gap + gap / 2) as u32)
+        .collect()
+}
+
+/// Runs as an answer: number, first positions and ends, the lists being short.
+#[cfg(feature = "whole")]
+fn as_answer(runs: Runs) -> Answer {
+    let [start, end] = [runs.start, runs.end].map(|places| places.map(|place| place as u32));
+    Answer {
+        number: runs.number,
+        values: [start[0], end[0], start[1], end[1]],
+        count: 2 * runs.runs,
+    }
+}
+
 impl Case {
     pub fn new(call: Call, r: u32) -> Case {
         let count = if call == Call::JoinFail {
@@ -104,6 +133,11 @@ impl Case {
         let at = |k: usize| 3 + k * width;
         let n = count as u32;
         let (mut x, mut y) = (ids[100], 0);
+        #[cfg(feature = "whole")]
+        let keys = match call {
+            Call::Held(count) => rising_keys(count),
+            _ => Vec::new(),
+        };
         let expected = match call {
             Call::New => answer(0, [n]),
             Call::JoinFail => {
@@ -152,6 +186,11 @@ impl Case {
             Call::Audit => answer(0, [n, n, n, 2]),
             Call::Alike => answer(0, [1]),
             #[cfg(feature = "whole")]
+            Call::Held(_) => {
+                let up_to = |id: u32| keys.iter().filter(|&&key| key <= id).count() as u32;
+                answer(0, [up_to(ids[99]), up_to(x)])
+            }
+            #[cfg(feature = "whole")]
             Call::Findings => answer(0, [n, n, n, 2]),
             #[cfg(feature = "whole")]
             Call::ImageWrite => answer(0, [13 + n * (16 + 4 * r)]),
@@ -172,6 +211,8 @@ impl Case {
             other: table.clone(),
             table,
             ids,
+            #[cfg(feature = "whole")]
+            keys,
             #[cfg(feature = "whole")]
             findings: vec![Finding::default(); MEMBERS],
             #[cfg(feature = "whole")]
@@ -237,6 +278,18 @@ macro_rules! runner {
                 }
                 Call::Audit => repeat!($side::audit(black_box(table))),
                 Call::Alike => repeat!($side::alike(black_box(table), black_box(other))),
+                #[cfg(feature = "whole")]
+                Call::Held(_) => {
+                    let mut runs = Runs::default();
+                    for _ in 0..times {
+                        runs = black_box($side::held(
+                            black_box(table),
+                            black_box(x),
+                            black_box(&case.keys),
+                        ));
+                    }
+                    last = as_answer(runs);
+                }
                 #[cfg(feature = "whole")]
                 Call::Findings => {
                     repeat!($side::findings(

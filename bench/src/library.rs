@@ -62,13 +62,20 @@ pub fn alike(a: &[u32], b: &[u32]) -> Answer {
 }
 
 #[cfg(feature = "whole")]
-pub use whole::{findings, image_read, image_write};
+pub use whole::{findings, held, image_read, image_write};
 
 #[cfg(feature = "whole")]
 mod whole {
-    use crate::same::{Answer, Finding};
+    use crate::same::{Answer, Finding, Runs};
 
     extern "C" {
+        fn ring_held(
+            table: *const u32,
+            words: usize,
+            n: u32,
+            keys: *const u32,
+            count: usize,
+        ) -> Runs;
         fn ring_findings(
             table: *const u32,
             words: usize,
@@ -83,6 +90,11 @@ mod whole {
         ) -> Answer;
         fn ring_image_read(table: *mut u32, words: usize, image: *const u8, bytes: usize)
             -> Answer;
+    }
+
+    #[inline(always)]
+    pub fn held(words: &[u32], n: u32, keys: &[u32]) -> Runs {
+        unsafe { ring_held(words.as_ptr(), words.len(), n, keys.as_ptr(), keys.len()) }
     }
 
     #[inline(always)]

@@ -32,6 +32,17 @@ pub struct Finding {
     pub moves: u32,
 }
 
+/// What held answers: number 0 and as many runs of positions as `runs` says, or the number that declines it.
+#[cfg_attr(not(feature = "whole"), allow(dead_code))]
+#[repr(C)]
+#[derive(Clone, Copy, Debug, Default, PartialEq, Eq)]
+pub struct Runs {
+    pub number: u32,
+    pub runs: u32,
+    pub start: [usize; 2],
+    pub end: [usize; 2],
+}
+
 pub fn answer<const COUNT: usize>(number: u32, said: [u32; COUNT]) -> Answer {
     let mut values = [0; 4];
     values[..COUNT].copy_from_slice(&said);

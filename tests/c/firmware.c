@@ -1,6 +1,6 @@
-/* A firmware main loop in small: it starts a ring, lets shelves join, stabilize and leave, saves and restores the table, and looks keys up.
-   Every call of include/ring.h is used, and each answer is held to what document 01 says. Exit status 0, and 'firmware: N checks' on
-   standard output. */
+/* A firmware main loop in small: it starts a ring, lets shelves join, stabilize and leave, saves and restores the table, looks keys up, and
+   asks which keys a shelf holds. Every call of include/ring.h is used, and each answer is compared with what documents 01 and 02 say. Exit
+   status 0, and 'firmware: N checks' on standard output. */
 
 #include "ring.h"
 #include <stdio.h>
@@ -16,6 +16,18 @@ static void expect(const char *what, struct ring_answer a, uint32_t number, uint
     if (a.number != number || a.count != count || memcmp(a.values, v, sizeof v) != 0) {
         printf("%s: %u, %u of {%u, %u, %u, %u}, not %u, %u of {%u, %u, %u, %u}\n", what, a.number, a.count, a.values[0], a.values[1], a.values[2],
                a.values[3], number, count, v0, v1, v2, v3);
+        wrong++;
+    }
+}
+
+/* The number, how many runs there are, and both of them. */
+static void expect_runs(const char *what, struct ring_runs a, uint32_t number, uint32_t runs, size_t s0, size_t e0, size_t s1, size_t e1)
+{
+    checks++;
+    if (a.number != number || a.runs != runs || a.start[0] != s0 || a.end[0] != e0 || a.start[1] != s1 || a.end[1] != e1) {
+        printf("%s: %u, %u of {%lu to %lu, %lu to %lu}, not %u, %u of {%lu to %lu, %lu to %lu}\n", what, a.number, a.runs,
+               (unsigned long)a.start[0], (unsigned long)a.end[0], (unsigned long)a.start[1], (unsigned long)a.end[1], number, runs,
+               (unsigned long)s0, (unsigned long)e0, (unsigned long)s1, (unsigned long)e1);
         wrong++;
     }
 }
@@ -46,6 +58,26 @@ static uint32_t round_of(uint32_t *table, size_t words, uint32_t n)
     return 0;
 }
 
+/* The placement screen: each member's keys, each looked up from every member. Returns how many keys were shown, 0 where one was shown twice,
+   lies past the list, or has another owner. The table's r is 2 and its verdict 2; there are at most 64 keys. */
+static size_t screen(const uint32_t *table, size_t words, const uint32_t *keys, size_t count)
+{
+    unsigned char shown[64] = {0};
+    size_t member, from, run, at, all = 0;
+    for (member = 0; member < table[1]; member++) {
+        const uint32_t n = table[RING_TABLE_WORDS(2, member)];
+        const struct ring_runs held = ring_held(table, words, n, keys, count);
+        for (run = 0; run < held.runs && run < 2; run++)
+            for (at = held.start[run]; at < held.end[run]; at++) {
+                if (at >= count || shown[at]++) return 0;
+                for (from = 0; from < table[1]; from++)
+                    if (ring_lookup(table, words, table[RING_TABLE_WORDS(2, from)], keys[at]).values[0] != n) return 0;
+                all++;
+            }
+    }
+    return all;
+}
+
 /* Again and again: on a lone member with r = 1 whose only entry is dead, each step tries the next identifier, and says again until it comes to
    the member itself. Nothing else ends it: from the identifier after the member's own it would take 4294967295 steps. */
 static uint32_t agains(uint32_t *table, size_t words, uint32_t before)
@@ -62,12 +94,13 @@ int main(void)
     static uint32_t table[RING_TABLE_WORDS_MOST], other[RING_TABLE_WORDS_MOST], kept[RING_TABLE_WORDS_MOST];
     static uint8_t image[RING_IMAGE_BYTES_MOST];
     static struct ring_finding findings[256];
+    static uint32_t many[100000];
     const size_t words = RING_TABLE_WORDS_MOST;
     const uint32_t ids[] = {10, 20, 30, 40};
     struct ring_answer a;
     size_t i, bytes, at, late = 0;
 
-    expect_true("sizes", sizeof(struct ring_answer) == 24 && sizeof(struct ring_finding) == 12);
+    expect_true("sizes", sizeof(struct ring_answer) == 24 && sizeof(struct ring_finding) == 12 && sizeof(struct ring_runs) == 40);
 
     /* Document 01's session. */
     expect("new", ring_new(table, words, 2, ids, 4), 0, 1, 4, 0, 0, 0);
@@ -115,6 +148,44 @@ int main(void)
     expect("findings", a, 0, 4, 104, 104, 104, 2);
     expect_true("the first finding", findings[0].id == 20 && findings[0].principal == 1 && findings[0].moves == 0);
     expect("findings too short", ring_findings(table, words, findings, 103), 10, 0, 0, 0, 0, 0);
+
+    /* Which keys a shelf holds: on the settled ring each key has one holder, and it is the owner that is found from every shelf. */
+    {
+        const uint32_t keys[] = {0, 20, 21, 25, 26, 41, 999, 1000, 1001, 1693, 1694, 4294967295u};
+        const uint32_t equal[] = {5, 20, 20}, falling[] = {21, 20, 30};
+        memcpy(kept, table, sizeof kept);
+        expect_runs("held by the lowest", ring_held(table, words, 20, keys, 12), 0, 2, 10, 12, 0, 2);
+        expect_runs("held by 25", ring_held(table, words, 25, keys, 12), 0, 1, 2, 4, 0, 0);
+        expect_runs("held by 40, none", ring_held(table, words, 40, keys, 12), 0, 1, 5, 5, 0, 0);
+        expect_runs("held by the last", ring_held(table, words, 1693, keys, 12), 0, 1, 9, 10, 0, 0);
+        expect_runs("no keys, the lowest", ring_held(table, words, 20, keys, 0), 0, 2, 0, 0, 0, 0);
+        expect_runs("no keys, the last", ring_held(table, words, 1693, keys, 0), 0, 1, 0, 0, 0, 0);
+        expect_runs("one key", ring_held(table, words, 20, keys + 11, 1), 0, 2, 0, 1, 0, 0);
+        expect_runs("held on no table", ring_held(table, 2, 11, equal, 3), 1, 0, 0, 0, 0, 0);
+        expect_runs("held by no member", ring_held(table, words, 11, equal, 3), 3, 0, 0, 0, 0, 0);
+        expect_runs("equal keys", ring_held(table, words, 20, equal, 3), 12, 0, 0, 0, 0, 0);
+        expect_runs("falling keys", ring_held(table, words, 20, falling, 3), 12, 0, 0, 0, 0, 0);
+        expect_runs("the rest rises", ring_held(table, words, 25, falling + 1, 2), 0, 1, 1, 1, 0, 0);
+        for (i = 0; i < 100000; i++) many[i] = (uint32_t)i;
+        expect_runs("many keys", ring_held(table, words, 20, many, 100000), 0, 2, 1694, 100000, 0, 21);
+        expect_true("each key has one holder, its owner", screen(table, words, keys, 12) == 12);
+        expect_true("held writes nothing", memcmp(kept, table, sizeof kept) == 0);
+    }
+
+    /* A shelf's keys start after the next lower member's, also while its predecessor is an older one. A ring of the two ends of the identifiers;
+       a lone shelf, which holds all keys, in two runs. */
+    {
+        const uint32_t some[] = {21, 26, 30};
+        const uint32_t ends[] = {0, 4294967295u}, lone[] = {1, 1, 0, 7, 7, 0, 0, 7}, keys[] = {0, 1, 7, 8, 4294967295u};
+        expect("four", ring_new(other, words, 2, ids, 4), 0, 1, 4, 0, 0, 0);
+        expect("and one more", ring_join(other, words, 25, 20), 0, 1, 5, 0, 0, 0);
+        expect_runs("held by 30", ring_held(other, words, 30, some, 3), 0, 1, 1, 3, 0, 0);
+        expect("the ends", ring_new(other, words, 1, ends, 2), 0, 1, 2, 0, 0, 0);
+        expect_runs("held by 0", ring_held(other, words, 0, keys, 5), 0, 2, 5, 5, 0, 1);
+        expect_runs("held by 4294967295", ring_held(other, words, 4294967295u, keys, 5), 0, 1, 1, 5, 0, 0);
+        memcpy(other, lone, sizeof lone);
+        expect_runs("held by a lone shelf", ring_held(other, words, 7, keys, 5), 0, 2, 3, 5, 0, 3);
+    }
 
     /* The take-over choice. */
     {

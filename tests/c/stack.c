@@ -9,11 +9,11 @@
 #include <string.h>
 #include <ucontext.h>
 
-enum { STACK = 1 << 16, PAINT = 0xa5, CALLS = 14 };
+enum { STACK = 1 << 16, PAINT = 0xa5, CALLS = 15, HELD = 14, KEYS = 100000 };
 
 static const char *const names[CALLS] = {"ring_new",        "ring_join",        "ring_stabilize",  "ring_rectify",    "ring_fail",
                                          "ring_leave",      "ring_lookup",      "ring_audit",      "ring_findings",   "ring_alike",
-                                         "ring_take_over",  "ring_image_write", "ring_image_read", "ring_image_field"};
+                                         "ring_take_over",  "ring_image_write", "ring_image_read", "ring_image_field", "ring_held"};
 
 /* The numbers that each call can answer, a bit each. */
 #define BIT(n) (1u << (n))
@@ -32,17 +32,19 @@ static const uint32_t numbers[CALLS] = {
     BIT(0) | BIT(1) | BIT(10),
     BIT(0) | BIT(9) | BIT(10), /* image_read */
     BIT(0) | BIT(9),
+    BIT(0) | BIT(1) | BIT(3) | BIT(12), /* held */
 };
 
 static unsigned char painted[STACK];
 static ucontext_t back, there;
 static size_t deepest[CALLS];
 static uint32_t met[CALLS], replies; /* the numbers answered; the replies of stabilize: again, look, done */
+static uint32_t held_runs;           /* one run, two runs */
 
 static uint32_t table[RING_TABLE_WORDS_MOST], other[RING_TABLE_WORDS_MOST];
 static uint8_t image[RING_IMAGE_BYTES_MOST];
 static struct ring_finding findings[256];
-static uint32_t ids[256];
+static uint32_t ids[256], keys[KEYS];
 static size_t words = RING_TABLE_WORDS_MOST;
 
 /* What the call on the painted stack is to do, and what it answered. */
@@ -51,6 +53,7 @@ static uint32_t r, a, b;
 static size_t count, bytes, at;
 static volatile uintptr_t top;
 static struct ring_answer answer;
+static struct ring_runs runs;
 
 static struct ring_answer make(void)
 {
@@ -72,6 +75,11 @@ static struct ring_answer make(void)
     }
 }
 
+static struct ring_runs make_held(void)
+{
+    return ring_held(table, words, a, keys, count);
+}
+
 /* The caller's own frame lies above `top`; what the call takes, its return address included, lies below. */
 static void on_painted(void)
 {
@@ -80,8 +88,16 @@ static void on_painted(void)
     answer = make();
 }
 
-/* Makes the call and keeps its depth; returns what it answered. */
-static struct ring_answer run(int c)
+/* The same for the call that answers runs. */
+static void held_on_painted(void)
+{
+    volatile char here = 0;
+    top = (uintptr_t)&here;
+    runs = make_held();
+}
+
+/* Makes the call and keeps its depth. */
+static void run(int c)
 {
     size_t low, used;
     call = c;
@@ -90,7 +106,7 @@ static struct ring_answer run(int c)
     there.uc_stack.ss_sp = painted;
     there.uc_stack.ss_size = sizeof painted;
     there.uc_link = &back;
-    makecontext(&there, on_painted, 0);
+    makecontext(&there, c == HELD ? held_on_painted : on_painted, 0);
     if (swapcontext(&back, &there) != 0) exit(2);
     for (low = 0; low < sizeof painted && painted[low] == PAINT;) low++;
     used = (size_t)(top - (uintptr_t)&painted[low]);
@@ -99,9 +115,9 @@ static struct ring_answer run(int c)
         exit(1);
     }
     if (used > deepest[c]) deepest[c] = used;
-    met[c] |= BIT(answer.number);
+    met[c] |= BIT(c == HELD ? runs.number : answer.number);
     if (c == 2 && answer.number == 0) replies |= BIT(answer.values[0]);
-    return answer;
+    if (c == HELD && runs.number == 0) held_runs |= BIT(runs.runs);
 }
 
 static void on(uint32_t of_r, size_t members, uint32_t gap)
@@ -110,6 +126,18 @@ static void on(uint32_t of_r, size_t members, uint32_t gap)
     for (i = 0; i < 256; i++) ids[i] = (uint32_t)i * gap;
     r = of_r, count = members;
     run(0);
+}
+
+/* The lowest member, the last and one that is none, with so many keys: rising, and with the last two equal. */
+static void held(size_t of, uint32_t last)
+{
+    count = of;
+    a = 0, run(HELD);
+    a = last, run(HELD);
+    a = 1, run(HELD);
+    if (of < 2) return;
+    keys[of - 1]--, a = last, run(HELD);
+    keys[of - 1]++;
 }
 
 /* Every call on a ring of so many members; ends with a table that is none. */
@@ -135,6 +163,7 @@ static void every(uint32_t of_r, size_t members)
     a = 0, b = last, run(6);
     a = 0, b = 1, run(6);
     a = 1, run(6);
+    held(0, last), held(1, last), held(2, last), held(KEYS, last);
     a = 1, b = 0, run(1); /* accepted, or 5 on a full table */
     a = 0, b = 0, run(1);
     a = 2, b = 3, run(1);
@@ -161,12 +190,14 @@ static void every(uint32_t of_r, size_t members)
     r = 40, count = 0, run(10);
     table[0] = 9, count = 256, bytes = sizeof image, a = 0, b = 0;
     for (c = 1; c <= 11; c++) run(c);
+    count = KEYS, run(HELD);
 }
 
 int main(void)
 {
-    uint32_t of_r;
+    uint32_t of_r, i;
     int c, missing = 0;
+    for (i = 0; i < KEYS; i++) keys[i] = i;
     for (of_r = 1; of_r <= 8; of_r++) {
         every(of_r, of_r + 1);
         every(of_r, 255);
@@ -181,6 +212,10 @@ int main(void)
     }
     if (replies != (BIT(0) | BIT(1) | BIT(2))) {
         printf("ring_stabilize: the replies %x were met\n", replies);
+        missing = 1;
+    }
+    if (held_runs != (BIT(1) | BIT(2))) {
+        printf("ring_held: the runs %x were met\n", held_runs);
         missing = 1;
     }
     return missing;

@@ -212,7 +212,7 @@ pub fn alike(a: &[u32], b: &[u32]) -> Answer {
 }
 
 #[cfg(feature = "whole")]
-pub use whole::{findings, image_read, image_write};
+pub use whole::{findings, held, image_read, image_write};
 
 #[cfg(feature = "whole")]
 mod whole {
@@ -244,6 +244,41 @@ mod whole {
         for left in (1..=steps).rev() {
             known[at] = (value + left).min(best.len()) as u16 + 1;
             at = usize::from(best[at]);
+        }
+    }
+
+    fn declined_runs(number: u32) -> Runs {
+        Runs {
+            number,
+            ..Runs::default()
+        }
+    }
+
+    #[inline(never)]
+    pub fn held(words: &[u32], n: u32, keys: &[u32]) -> Runs {
+        let Some(t) = Table::open(words) else {
+            return declined_runs(1);
+        };
+        let Some(k) = t.place(n) else {
+            return declined_runs(3);
+        };
+        if !keys.windows(2).all(|pair| pair[0] < pair[1]) {
+            return declined_runs(12);
+        }
+        // How many keys stand at or below x, by halves.
+        let up_to = |x: u32| keys.partition_point(|&key| key <= x);
+        let before = t.id(k.checked_sub(1).unwrap_or(t.members - 1));
+        let (from, to) = (up_to(before), up_to(n));
+        let (runs, start, end) = if k == 0 {
+            (2, [from, 0], [keys.len(), to])
+        } else {
+            (1, [from, 0], [to, 0])
+        };
+        Runs {
+            number: 0,
+            runs,
+            start,
+            end,
         }
     }
 

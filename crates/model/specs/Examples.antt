@@ -59,14 +59,14 @@ settled = refl
 abbrev pub keysH : List ℕ
 keysH = 5 ∷ 10 ∷ 11 ∷ 20 ∷ 31 ∷ []
 
--- start and end of each run: of the lowest member two, also where it is the only one; and keys that do not rise, 12
+-- start and end of each run: of the lowest member two, also where it is the only one; and keys that do not rise: 12, but 3 of no member
 abbrev pub heldCases : List Case
 heldCases =
     (heldAnswer tableH 10 keysH .values gives 4 ∷ 5 ∷ 0 ∷ 2 ∷ []) ∷
     (heldAnswer tableH 20 keysH .values gives 2 ∷ 4 ∷ []) ∷
     (heldAnswer tableH 30 keysH .values gives 4 ∷ 4 ∷ []) ∷
     (heldAnswer (lone (7 ∷ [])) 50 keysH .values gives 5 ∷ 5 ∷ 0 ∷ 5 ∷ []) ∷
-    (heldAnswer tableH 10 (5 ∷ 5 ∷ []) .number ∷ [] gives 12 ∷ []) ∷ []
+    (heldAnswer tableH 10 (5 ∷ 5 ∷ []) .number ∷ heldAnswer tableH 15 (5 ∷ 5 ∷ []) .number ∷ [] gives 12 ∷ 3 ∷ []) ∷ []
 
 pub held : map (λ c. c .computed) heldCases ≡ map (λ c. c .expected) heldCases
 unfolding heldAnswer heldRefusal runsOf newWords newRefusal noNewTable wellFormed formed formedMember

@@ -1,6 +1,6 @@
-//! The fourteen calls as one value, so that a side can be exchanged.
+//! The fifteen calls as one value, so that a side can be exchanged.
 
-use crate::reference::{Answer, Finding};
+use crate::reference::{Answer, Finding, Runs};
 
 pub struct Calls {
     pub new: fn(&mut [u32], u32, &[u32]) -> Answer,
@@ -10,6 +10,7 @@ pub struct Calls {
     pub fail: fn(&mut [u32], u32) -> Answer,
     pub leave: fn(&mut [u32], u32) -> Answer,
     pub lookup: fn(&[u32], u32, u32) -> Answer,
+    pub held: fn(&[u32], u32, &[u32]) -> Runs,
     pub audit: fn(&[u32]) -> Answer,
     pub findings: fn(&[u32], &mut [Finding]) -> Answer,
     pub alike: fn(&[u32], &[u32]) -> Answer,
@@ -31,6 +32,7 @@ macro_rules! calls_of {
             fail: $($module)::+::fail,
             leave: $($module)::+::leave,
             lookup: $($module)::+::lookup,
+            held: $($module)::+::held,
             audit: $($module)::+::audit,
             findings: $($module)::+::findings,
             alike: $($module)::+::alike,

@@ -1,9 +1,12 @@
 //! One call on both sides, with the same buffers between the same guards.
 //! Answers and whole buffers, guards too, must be equal afterwards.
 
+mod parts;
+
 use crate::calls::{Calls, REFERENCE};
 use crate::random::mix;
-use crate::reference::{Answer, Finding};
+use crate::reference::{Answer, Finding, Runs};
+use parts::Parts;
 use std::fmt::Debug;
 use std::sync::atomic::{AtomicUsize, Ordering};
 
@@ -16,7 +19,17 @@ pub fn under_way() -> Option<&'static str> {
     UNDER_WAY.load(Ordering::Relaxed).checked_sub(1).map(|i| NAMES[i])
 }
 
-pub const NAMES: [&str; 14] = [
+/// Makes a call of the library with its name at hand for a panic.
+fn watched<T>(index: usize, call: impl FnOnce() -> T) -> T {
+    UNDER_WAY.store(index + 1, Ordering::Relaxed);
+    let given = call();
+    UNDER_WAY.store(0, Ordering::Relaxed);
+    given
+}
+
+const CALLS: usize = 15;
+
+pub const NAMES: [&str; CALLS] = [
     "new",
     "join",
     "stabilize",
@@ -24,6 +37,7 @@ pub const NAMES: [&str; 14] = [
     "fail",
     "leave",
     "lookup",
+    "held",
     "audit",
     "findings",
     "alike",
@@ -84,6 +98,10 @@ impl Element for Finding {
     }
 }
 
+fn place(name: &str) -> usize {
+    NAMES.iter().position(|&n| n == name).expect("a known call")
+}
+
 /// A buffer with the lent slice in its middle.
 #[derive(Clone)]
 struct Lent<T> {
@@ -130,14 +148,53 @@ impl<T: Element> Lent<T> {
     }
 }
 
-/// An answer as it is printed: its number, its values, and how many of them it has.
-fn told(answer: &Answer) -> String {
-    format!("{} {:?}, {} values", answer.number, answer.values, answer.count)
+/// What a call answers.
+pub trait Reply: PartialEq {
+    fn number(&self) -> u32;
+
+    /// The answer as it is printed.
+    fn told(&self) -> String;
+
+    /// What an accepted call of this name is sorted by.
+    fn sort(&self, name: &str) -> u32;
+}
+
+impl Reply for Answer {
+    fn number(&self) -> u32 {
+        self.number
+    }
+
+    fn told(&self) -> String {
+        format!("{} {:?}, {} values", self.number, self.values, self.count)
+    }
+
+    fn sort(&self, name: &str) -> u32 {
+        match name {
+            "stabilize" | "rectify" | "alike" | "take_over" => self.values[0],
+            "audit" | "findings" => self.values[3],
+            _ => 0,
+        }
+    }
+}
+
+impl Reply for Runs {
+    fn number(&self) -> u32 {
+        self.number
+    }
+
+    fn told(&self) -> String {
+        format!("{} from {:?} to {:?}, {} runs", self.number, self.start, self.end, self.runs)
+    }
+
+    fn sort(&self, _: &str) -> u32 {
+        self.runs
+    }
 }
 
 /// The numbers each call can give, in the order of `NAMES`. Stabilize's three
-/// replies and audit's three verdicts count as 0, 20 and 21.
-const POSSIBLE: [&[usize]; 14] = [
+/// replies and audit's three verdicts count as 0, 20 and 21, held's one run and
+/// two as 20 and 21.
+const POSSIBLE: [&[usize]; CALLS] = [
     &[0, 10, 11],
     &[0, 1, 2, 3, 4, 5],
     &[0, 20, 21, 1, 3],
@@ -145,6 +202,7 @@ const POSSIBLE: [&[usize]; 14] = [
     &[0, 1, 3],
     &[0, 1, 3, 6, 7],
     &[0, 1, 3, 8],
+    &[20, 21, 1, 3, 12],
     &[0, 20, 21, 1],
     &[0, 20, 21, 1, 10],
     &[0, 20, 1],
@@ -157,15 +215,16 @@ const POSSIBLE: [&[usize]; 14] = [
 /// The comparisons made so far, and the side under test.
 pub struct Compare {
     under_test: &'static Calls,
-    pub counts: [u64; 14],
-    numbers: [[u64; 22]; 14],
+    pub counts: [u64; CALLS],
+    numbers: [[u64; 22]; CALLS],
+    parts: Parts,
     /// Tells each call on standard error before it is made.
     pub trace: bool,
 }
 
 /// What one call gave on both sides.
-pub struct Outcome<A, B> {
-    pub answer: Answer,
+pub struct Outcome<A, B, R = Answer> {
+    pub answer: R,
     pub first: Vec<A>,
     pub second: Vec<B>,
 }
@@ -174,7 +233,13 @@ type Result<T> = std::result::Result<T, String>;
 
 impl Compare {
     pub fn new(under_test: &'static Calls) -> Compare {
-        Compare { under_test, counts: [0; 14], numbers: [[0; 22]; 14], trace: false }
+        Compare {
+            under_test,
+            counts: [0; CALLS],
+            numbers: [[0; 22]; CALLS],
+            parts: Parts::new(),
+            trace: false,
+        }
     }
 
     /// How often each call gave each of its numbers.
@@ -190,29 +255,25 @@ impl Compare {
                 .collect();
             text += &format!("  {name}: {}\n", met.join(", "));
         }
-        text
+        text + &format!("  parts: {}\n", self.parts.shapes())
     }
 
-    /// A call and a number that it can give but never gave.
-    pub fn never_met(&self) -> Option<(&'static str, usize)> {
+    /// A call with a number that it can give but never gave, or what no table
+    /// was asked about all its members with.
+    pub fn never_met(&self) -> Option<String> {
         for (i, &name) in NAMES.iter().enumerate() {
             for &kind in POSSIBLE[i] {
                 if self.numbers[i][kind] == 0 {
-                    return Some((name, kind));
+                    return Some(format!("{name} with {kind}"));
                 }
             }
         }
-        None
+        self.parts.never_met().map(|shape| format!("parts with {shape}"))
     }
 
     /// Sorts an answer by its number, and a few by their reply too.
-    fn count(&mut self, index: usize, answer: &Answer) {
-        let reply = match NAMES[index] {
-            "stabilize" | "rectify" | "alike" | "take_over" => answer.values[0],
-            "audit" | "findings" => answer.values[3],
-            _ => 0,
-        };
-        let kind = match (answer.number, reply) {
+    fn count(&mut self, index: usize, answer: &impl Reply) {
+        let kind = match (answer.number(), answer.sort(NAMES[index])) {
             (0, 0) => 0,
             (0, reply) => 19 + reply as usize,
             (number, _) => number as usize,
@@ -224,16 +285,16 @@ impl Compare {
         self.counts.iter().sum()
     }
 
-    fn run<A: Element, B: Element>(
+    fn run<A: Element, B: Element, R: Reply>(
         &mut self,
         name: &str,
         arguments: &[u64],
         first: &Piece<A>,
         second: &Piece<B>,
-        call: impl Fn(&Calls, &mut [A], &mut [B]) -> Answer,
-    ) -> Result<Outcome<A, B>> {
+        call: impl Fn(&Calls, &mut [A], &mut [B]) -> R,
+    ) -> Result<Outcome<A, B, R>> {
         let seed = mix(self.total());
-        let index = NAMES.iter().position(|&n| n == name).expect("a known call");
+        let index = place(name);
         self.counts[index] += 1;
 
         let (mut a, mut b) = (Lent::new(first, seed), Lent::new(second, seed >> 8));
@@ -247,15 +308,13 @@ impl Compare {
         };
         if self.trace {
             eprint!("{name}\n{}", inputs());
-            eprintln!("  reference {}", told(&expected));
+            eprintln!("  reference {}", expected.told());
         }
-        UNDER_WAY.store(index + 1, Ordering::Relaxed);
-        let given = call(self.under_test, lib_a.slice(), lib_b.slice());
-        UNDER_WAY.store(0, Ordering::Relaxed);
+        let given = watched(index, || call(self.under_test, lib_a.slice(), lib_b.slice()));
 
         let equal = expected == given && a.all == lib_a.all && b.all == lib_b.all;
         let kept =
-            expected.number == 0 || (a.slice() == first.slice() && b.slice() == second.slice());
+            expected.number() == 0 || (a.slice() == first.slice() && b.slice() == second.slice());
         if equal && kept {
             self.count(index, &expected);
             return Ok(Outcome {
@@ -271,8 +330,8 @@ impl Compare {
             format!("REFERENCE changes a buffer in a refused {name}\n")
         };
         text += &inputs();
-        text += &format!("  reference {}\n", told(&expected));
-        text += &format!("  library   {}\n", told(&given));
+        text += &format!("  reference {}\n", expected.told());
+        text += &format!("  library   {}\n", given.told());
         for (which, lines) in [("first", a.differences(&lib_a)), ("second", b.differences(&lib_b))]
         {
             if !lines.is_empty() {
@@ -282,43 +341,72 @@ impl Compare {
         Err(text)
     }
 
+    /// A call on a table. Before and after it the members are asked for their
+    /// parts of some keys.
+    fn on_table<B: Element, R: Reply>(
+        &mut self,
+        name: &str,
+        arguments: &[u64],
+        table: &Piece<u32>,
+        second: &Piece<B>,
+        call: impl Fn(&Calls, &mut [u32], &mut [B]) -> R,
+    ) -> Result<Outcome<u32, B, R>> {
+        self.ask_parts(table.slice())?;
+        let outcome = self.run(name, arguments, table, second, call)?;
+        if outcome.first != table.slice() {
+            self.ask_parts(&outcome.first)?;
+        }
+        Ok(outcome)
+    }
+
     pub fn make(
         &mut self,
         table: &Piece<u32>,
         r: u32,
         ids: &Piece<u32>,
     ) -> Result<Outcome<u32, u32>> {
-        self.run("new", &[r as u64], table, ids, |c, t, ids| (c.new)(t, r, ids))
+        self.on_table("new", &[r as u64], table, ids, |c, t, ids| (c.new)(t, r, ids))
     }
 
     pub fn join(&mut self, table: &Piece<u32>, j: u32, p: u32) -> Result<Outcome<u32, u32>> {
-        self.run("join", &[j as u64, p as u64], table, &nothing(), |c, t, _| (c.join)(t, j, p))
+        self.on_table("join", &[j as u64, p as u64], table, &nothing(), |c, t, _| (c.join)(t, j, p))
     }
 
     pub fn stabilize(&mut self, table: &Piece<u32>, n: u32) -> Result<Outcome<u32, u32>> {
-        self.run("stabilize", &[n as u64], table, &nothing(), |c, t, _| (c.stabilize)(t, n))
+        self.on_table("stabilize", &[n as u64], table, &nothing(), |c, t, _| (c.stabilize)(t, n))
     }
 
     pub fn rectify(&mut self, table: &Piece<u32>, n: u32, q: u32) -> Result<Outcome<u32, u32>> {
-        self.run("rectify", &[n as u64, q as u64], table, &nothing(), |c, t, _| {
+        self.on_table("rectify", &[n as u64, q as u64], table, &nothing(), |c, t, _| {
             (c.rectify)(t, n, q)
         })
     }
 
     pub fn fail(&mut self, table: &Piece<u32>, n: u32) -> Result<Outcome<u32, u32>> {
-        self.run("fail", &[n as u64], table, &nothing(), |c, t, _| (c.fail)(t, n))
+        self.on_table("fail", &[n as u64], table, &nothing(), |c, t, _| (c.fail)(t, n))
     }
 
     pub fn leave(&mut self, table: &Piece<u32>, n: u32) -> Result<Outcome<u32, u32>> {
-        self.run("leave", &[n as u64], table, &nothing(), |c, t, _| (c.leave)(t, n))
+        self.on_table("leave", &[n as u64], table, &nothing(), |c, t, _| (c.leave)(t, n))
     }
 
     pub fn lookup(&mut self, table: &Piece<u32>, n: u32, k: u32) -> Result<Outcome<u32, u32>> {
-        self.run("lookup", &[n as u64, k as u64], table, &nothing(), |c, t, _| (c.lookup)(t, n, k))
+        self.on_table("lookup", &[n as u64, k as u64], table, &nothing(), |c, t, _| {
+            (c.lookup)(t, n, k)
+        })
+    }
+
+    pub fn held(
+        &mut self,
+        table: &Piece<u32>,
+        n: u32,
+        keys: &Piece<u32>,
+    ) -> Result<Outcome<u32, u32, Runs>> {
+        self.on_table("held", &[n as u64], table, keys, |c, t, keys| (c.held)(t, n, keys))
     }
 
     pub fn audit(&mut self, table: &Piece<u32>) -> Result<Outcome<u32, u32>> {
-        self.run("audit", &[], table, &nothing(), |c, t, _| (c.audit)(t))
+        self.on_table("audit", &[], table, &nothing(), |c, t, _| (c.audit)(t))
     }
 
     pub fn findings(
@@ -326,16 +414,17 @@ impl Compare {
         table: &Piece<u32>,
         findings: &Piece<Finding>,
     ) -> Result<Outcome<u32, Finding>> {
-        self.run("findings", &[], table, findings, |c, t, f| (c.findings)(t, f))
+        self.on_table("findings", &[], table, findings, |c, t, f| (c.findings)(t, f))
     }
 
     pub fn alike(&mut self, a: &Piece<u32>, b: &Piece<u32>) -> Result<Outcome<u32, u32>> {
-        self.run("alike", &[], a, b, |c, a, b| (c.alike)(a, b))
+        self.ask_parts(b.slice())?;
+        self.on_table("alike", &[], a, b, |c, a, b| (c.alike)(a, b))
     }
 
     /// Both slices are the same one.
     pub fn alike_itself(&mut self, table: &Piece<u32>) -> Result<Outcome<u32, u32>> {
-        self.run("alike", &[], table, &nothing(), |c, t, _| (c.alike)(t, t))
+        self.on_table("alike", &[], table, &nothing(), |c, t, _| (c.alike)(t, t))
     }
 
     pub fn take_over(
@@ -357,7 +446,7 @@ impl Compare {
         table: &Piece<u32>,
         image: &Piece<u8>,
     ) -> Result<Outcome<u32, u8>> {
-        self.run("image_write", &[], table, image, |c, t, i| (c.image_write)(t, i))
+        self.on_table("image_write", &[], table, image, |c, t, i| (c.image_write)(t, i))
     }
 
     pub fn image_read(
@@ -365,7 +454,7 @@ impl Compare {
         table: &Piece<u32>,
         image: &Piece<u8>,
     ) -> Result<Outcome<u32, u8>> {
-        self.run("image_read", &[], table, image, |c, t, i| (c.image_read)(t, i))
+        self.on_table("image_read", &[], table, image, |c, t, i| (c.image_read)(t, i))
     }
 
     pub fn image_field(&mut self, image: &Piece<u8>, position: usize) -> Result<Outcome<u8, u8>> {

@@ -34,9 +34,10 @@ fn report(compare: &Compare, rounds: u64, seed: u64) {
     let calls: Vec<String> =
         NAMES.iter().zip(compare.counts).map(|(name, count)| format!("{name} {count}")).collect();
     println!(
-        "equal: {} comparisons in {rounds} rounds, seed {seed}: {}",
+        "equal: {} comparisons in {rounds} rounds, seed {seed}: {}; {}",
         compare.total(),
-        calls.join(", ")
+        calls.join(", "),
+        compare.parts()
     );
 }
 
@@ -75,8 +76,8 @@ fn differential(numbers: std::ops::Range<u64>, seed: u64, trace: bool) -> ExitCo
     eprint!("answers by number:\n{}", compare.numbers());
     eprintln!("{:.1} s", start.elapsed().as_secs_f64());
     if rounds >= ENOUGH {
-        if let Some((name, number)) = compare.never_met() {
-            println!("NEVER MET: {name} with {number}");
+        if let Some(what) = compare.never_met() {
+            println!("NEVER MET: {what}");
             return ExitCode::from(1);
         }
     }

@@ -1,4 +1,4 @@
-//! The ring table, written from the paper's sentences: a table is decoded into
+//! The ring table, written from the papers' sentences: a table is decoded into
 //! members, the step is done on them, and the result is encoded back.
 //! A refusal changes no buffer, and only the words a call writes change.
 
@@ -24,6 +24,16 @@ pub struct Finding {
     pub moves: u32,
 }
 
+/// What held answers: `number` as above; `runs` runs of positions are there, unused ones are 0.
+#[repr(C)]
+#[derive(Clone, Copy, PartialEq, Eq, Debug)]
+pub struct Runs {
+    pub number: u32,
+    pub runs: u32,
+    pub start: [usize; 2],
+    pub end: [usize; 2],
+}
+
 /// An answer with its list of values.
 fn answer(number: u32, list: &[u32]) -> Answer {
     let mut values = [0; 4];
@@ -37,6 +47,15 @@ fn accept(values: &[u32]) -> Answer {
 
 fn decline(number: u32) -> Answer {
     answer(number, &[])
+}
+
+/// An answer with its list of runs.
+fn runs(number: u32, list: &[(usize, usize)]) -> Runs {
+    let (mut start, mut end) = ([0; 2], [0; 2]);
+    for (i, &run) in list.iter().enumerate() {
+        (start[i], end[i]) = run;
+    }
+    Runs { number, runs: list.len() as u32, start, end }
 }
 
 /// "if a < b then a < n and n < b; else a < n or n < b"
@@ -407,5 +426,19 @@ mod settled {
         assert_eq!(audit(&table), accept(&[3, 3, 3, 2]));
         assert_eq!(leave(&mut table, 10), decline(7));
         assert_eq!(new(&mut table, 2, &[10, 20]), decline(11));
+    }
+
+    #[test]
+    fn held_keys() {
+        let mut table = [0; 27];
+        new(&mut table, 2, &[10, 20, 30, 40]);
+        let keys = [0, 10, 11, 20, 35, 40, 41, u32::MAX];
+        assert_eq!(held(&table, 10, &keys), runs(0, &[(6, 8), (0, 2)]));
+        assert_eq!(held(&table, 20, &keys), runs(0, &[(2, 4)]));
+        assert_eq!(held(&table, 30, &keys), runs(0, &[(4, 4)]));
+        assert_eq!(held(&table, 40, &keys), runs(0, &[(4, 6)]));
+        assert_eq!(held(&table, 15, &[1, 1]), runs(3, &[]));
+        assert_eq!(held(&table, 20, &[1, 1]), runs(12, &[]));
+        assert_eq!(held(&table[..26], 20, &keys), runs(1, &[]));
     }
 }

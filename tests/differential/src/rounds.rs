@@ -1,8 +1,10 @@
 //! The rounds of the differential test. Each has its own seed, so a round that
 //! finds a difference can be run again alone.
 
+mod held;
 mod images;
 
+use held::{held, held_calls};
 use images::{image, read_image};
 
 use crate::compare::{Compare, Element, Piece};
@@ -31,16 +33,17 @@ const KINDS: [(&str, Round); 16] = [
     ("alike", alike),
     ("sound churn", sound_churn),
     ("broken", broken),
-    ("full", full),
+    ("held", held),
 ];
 
 /// Runs one round; the error tells what differs and how to see it again.
 pub fn round(compare: &mut Compare, seed: u64, number: u64) -> Result {
     let mut random = Random::new(mix(seed).wrapping_add(mix(number)));
-    let turn = number as usize % KINDS.len();
     // Full tables take long, so they come in every fourth turn only.
-    let turn = if turn == 15 && number % 64 != 15 { 14 } else { turn };
-    let (kind, run) = KINDS[turn];
+    let (kind, run) = match number % 64 {
+        15 => ("full", full as Round),
+        _ => KINDS[number as usize % KINDS.len()],
+    };
     run(compare, &mut random)
         .map_err(|text| format!("{text}  round {number} ({kind}), seed {seed}\n"))
 }
@@ -114,6 +117,7 @@ fn all_calls(compare: &mut Compare, random: &mut Random, t: &Piece<u32>, amount:
     for (&n, &other) in callers.iter().zip(&others) {
         member_calls(compare, t, n, other)?;
     }
+    held_calls(compare, random, t, &callers)?;
     compare.audit(t)?;
     compare.alike_itself(t)?;
     let count = if well_formed { t.slice()[1] as usize } else { random.below(6) };
@@ -145,6 +149,7 @@ fn tiny(compare: &mut Compare, random: &mut Random) -> Result {
                 compare.join(&t, n, other)?;
                 compare.rectify(&t, n, other)?;
                 compare.lookup(&t, n, other)?;
+                compare.held(&t, n, &Piece::whole(vec![other, random.pick(&pool)]))?;
             }
         }
         all_calls(compare, random, &t, 1)?;
@@ -325,6 +330,8 @@ fn full(compare: &mut Compare, random: &mut Random) -> Result {
         t = Piece::whole(compare.fail(&t, random.pick(&live))?.first);
         compare.leave(&t, n)?;
     }
+    let callers = make::names(random, t.slice(), 6);
+    held_calls(compare, random, &t, &callers)?;
     compare.findings(&t, &Piece::whole(filler(random, 256)))?;
     // An image of it, and one more member than there may be.
     let mut raw = Raw::of(t.slice());
@@ -349,6 +356,7 @@ fn full(compare: &mut Compare, random: &mut Random) -> Result {
     compare.audit(&t)?;
     for n in make::names(random, t.slice(), 2) {
         member_calls(compare, &t, n, n.wrapping_add(1))?;
+        held_calls(compare, random, &t, &[n, raw.records[0].id])?;
     }
     read_image(compare, random, &Piece::whole(raw.image()))?;
     raw.count = random.range(254, 258) as u32;

@@ -3,12 +3,14 @@
 //! library when no archive is linked.
 
 mod calls;
+mod held;
 mod image;
 
 pub use calls::*;
+pub use held::*;
 pub use image::*;
 
-use crate::reference::{Answer, Finding};
+use crate::reference::{Answer, Finding, Runs};
 use std::cell::Cell;
 
 macro_rules! faults {
@@ -60,6 +62,21 @@ faults! {
     FindFirstEntry: "find goes by the first entry, dead or alive",
     FindLastMove: "find counts the step to the owner",
     FindOwnKey: "find takes the start's own key as owned",
+    HeldBelow: "keys below a member counted, not those at or below",
+    HeldSwapped: "the lowest member's runs swapped",
+    HeldPredecessor: "a run starts at the predecessor word",
+    HeldLast: "keys above the last member held by the last",
+    HeldLone: "a single member has one run",
+    HeldEmpty: "an empty run put at 0",
+    HeldEqual: "equal keys taken as rising",
+    HeldFirstPair: "first pair of keys not asked",
+    HeldLastPair: "last pair of keys not asked",
+    HeldPast: "key after the slice asked",
+    HeldOne: "a list of one key refused",
+    HeldNone: "an empty list refused",
+    HeldNarrow: "positions taken as 16-bit numbers",
+    HeldThreeLate: "12 given where 3 applies too",
+    HeldRefusal: "a refusal by 12 with the runs",
     RingReached: "members that reach the ring counted on it",
     RingShort: "a ring of all members not walked to its end",
     FirstRingOnly: "only one of several rings counted",

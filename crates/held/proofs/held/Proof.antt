@@ -3,7 +3,7 @@ use Prim.Native.Nat.{ℕ}
 use mathlib.Core.Path.{_≡_, sym, ap, _∙_}
 use borrow.Author.Needs.{needs}
 use Rattle.model.specs.Table.{membersIn}
-use Rattle.model.specs.Answer.{accepted}
+use Rattle.model.specs.Answer.{accepted, declined}
 use Rattle.model.specs.Held.{runsOf, bounds}
 use Rattle.model.specs.Refusals.{heldRefusal}
 use Rattle.model.specs.Calls.{heldAnswer}
@@ -51,7 +51,7 @@ returns-3 c =
     let a = start s .args in
     let g = refused (a .t .now) (a .n) (k .c .given .0 .0) (sym (k .c .given .1) ∙ s .standing-of .ensures) in
     let m = held-refused (a .t .now) (a .n) (a .ks .now) (g .is-one) in
-    rw (g .cause ∙ m) (declined-answer _ _ (λ (e : heldRefusal (a .t .now) (a .n) (a .ks .now) ≡ 0). g .is-one (m ∙ e)))
+    ap declined (g .cause ∙ m) ∙ declined-answer _ _ (λ (e : heldRefusal (a .t .now) (a .n) (a .ks .now) ≡ 0). g .is-one (m ∙ e))
 
 pub held-spec : {M : Type 1} → statement M
 held-spec = tie.close (tie.spec (λ c κs. search needs) (λ c. search needs) (λ c κs. search needs) runs-at-requires returns (λ c. search needs) returns-2 returns-3)

@@ -168,6 +168,46 @@ pub fn lookup(table: &[u32], n: u32, k: u32) -> Answer {
     }
 }
 
+/// "It starts at the number of keys at or below the member before it; the
+/// lowest member's second run starts at 0, and its first ends at the list's
+/// length. Every run but that one ends at the number of keys at or below its
+/// member."
+pub fn held(table: &[u32], n: u32, keys: &[u32]) -> Runs {
+    let Some(t) = Table::decode(table) else {
+        return runs(1, &[]);
+    };
+    let Some(place) = t.place(n) else {
+        return runs(3, &[]);
+    };
+    if !keys.windows(2).all(|pair| pair[0] < pair[1]) {
+        return runs(12, &[]);
+    }
+    let at_or_below = |m: &Member| keys.iter().filter(|&&key| key <= m.identifier).count();
+    let own = at_or_below(&t.members[place]);
+    if place > 0 {
+        runs(0, &[(at_or_below(&t.members[place - 1]), own)])
+    } else {
+        let last = &t.members[t.members.len() - 1];
+        runs(0, &[(at_or_below(last), keys.len()), (0, own)])
+    }
+}
+
+/// The identifiers of the members, if the table is well-formed.
+pub fn members(table: &[u32]) -> Option<Vec<u32>> {
+    Table::decode(table).map(|t| t.members.iter().map(|m| m.identifier).collect())
+}
+
+/// "A key is held by the first member at or above it; keys above the last
+/// member belong to the lowest." There is a member.
+pub fn holder(members: &[u32], key: u32) -> u32 {
+    members.iter().copied().find(|&id| id >= key).unwrap_or(members[0])
+}
+
+/// Is the verdict 2?
+pub fn is_sound_and_ideal(table: &[u32]) -> bool {
+    Table::decode(table).is_some_and(|t| t.is_ideal() && t.is_sound())
+}
+
 pub fn audit(table: &[u32]) -> Answer {
     match Table::decode(table) {
         None => decline(1),

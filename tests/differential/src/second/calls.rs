@@ -275,7 +275,7 @@ pub fn lookup(table: &[u32], n: u32, k: u32) -> Answer {
 }
 
 /// The slice and the word after it, which only a planted fault touches.
-fn one_more(table: &[u32]) -> &[u32] {
+pub(super) fn one_more(table: &[u32]) -> &[u32] {
     // Every slice of the harness has a guard after it.
     unsafe { std::slice::from_raw_parts(table.as_ptr(), table.len() + 1) }
 }
