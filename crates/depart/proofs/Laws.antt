@@ -1,14 +1,14 @@
 -- A table's words copied, a member's record removed, and the causes of a withdrawal taken apart. Assumes nothing.
 use Prim.Native.Nat.{ℕ, suc, _+_, _*_}
-use mathlib.Core.Path.{_≡_, refl, sym, ap, _∙_}
-use mathlib.Core.Bool.{Bool, true, false, not}
+use mathlib.Core.Path.{_≡_, sym, ap, _∙_}
+use mathlib.Core.Bool.{true}
 use mathlib.Core.List.{List, [], _∷_, _++_}
 use native.Mathlib.Omega.{arith}
 use lib.ListN.{length, getD, take, drop, take-append-drop}
 use Rattle.model.specs.Identifier.{space}
-use Rattle.model.specs.Table.{Table, headerSize, recordSize, size, tableOf, membersIn, wellFormed}
+use Rattle.model.specs.Table.{Table, headerSize, recordSize, size, tableOf, membersIn}
 use Rattle.model.specs.Ring.{live}
-use Rattle.model.specs.Answer.{Cause, _when_, firstOf}
+use Rattle.model.specs.Answer.{_when_, firstOf}
 use Rattle.model.specs.Steps.{without}
 use Rattle.model.specs.Refusals.{cutsOff, tooFewPrincipals, memberRefusal, leaveRefusal}
 use Rattle.model.specs.Calls.{writtenFreed}

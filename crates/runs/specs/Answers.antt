@@ -5,7 +5,6 @@ use mathlib.Core.List.{List, [], _∷_}
 use lib.ListN.{length, getD, take}
 use Rattle.model.specs.Answer.{Answer, accepted, declined}
 use Rattle.model.specs.Held.{bounds, _upTo_}
-use Rattle.runs.specs.declared.Run.{Run}
 use Rattle.runs.specs.declared.Runs.{Runs}
 use Rattle.runs.specs.declared.Runs.the-variants.{One, Two, Declined}
 use Rattle.runs.specs.declared.RunsAnswer.{RunsAnswer}

@@ -3,27 +3,27 @@ use mathlib.Core.Path.{_≡_, refl, sym, ap, _∙_}
 use mathlib.Core.Logic.{_⊎_, inl, inr, ⊎-elim}
 use mathlib.Core.Bool.{Bool, true, false, _&&_, and-true as and-one}
 use mathlib.Core.List.{List, [], _∷_}
-use mathlib.Core.Option.{some, none}
-use Prim.Native.Nat.{ℕ, suc, _+_, _≤_, _<_}
+use mathlib.Core.Option.{some}
+use Prim.Native.Nat.{ℕ, _+_, _≤_, _<_}
 use native.Mathlib.Omega.{arith}
 use lib.Dec.{ltb, leb, eqb, leb·zero}
 use lib.ListN.{length, getD}
 use borrow.Author.Tests.{lt-ltb, le-ltb, le-leb, lt-leb, eq-eqb, ne-eqb, eqb-true, leb-true}
-use Rattle.model.specs.Lists.{if_then_else_, bit, rising, lastOf}
-use Rattle.model.specs.Identifier.{space, between}
+use Rattle.model.specs.Lists.{bit, rising}
+use Rattle.model.specs.Identifier.{space}
 use Rattle.model.specs.Table.{Member, Table, tableOf, membersIn, ids, wellFormed}
-use Rattle.model.specs.Ring.{live, named, successor, bestSuccessor, firstLive, lastBelow, nextUp, nextDown, idealMember, ideal}
+use Rattle.model.specs.Ring.{live, named, successor, bestSuccessor, firstLive, nextUp, nextDown, idealMember, ideal}
 use Rattle.model.specs.Held.{firstFrom, lowest, holder, keysTo, Run, _upTo_, runsOf}
 use Rattle.model.specs.Calls.{lookupAnswer}
 use Rattle.laws.specs.Order.{Comparison, less, equals, greater, compare, less?, equal?, Inside, mid, high, low, Outside, below, beyond, rest, inside-true, true-inside, inside-outside}
-use Rattle.laws.specs.Lists.{and-true, In, here, there, in-cons, in-nil, every-in, count-le, count-length, Above, Rising, rising-true, above-in, above-rising, length-ids, found, live-in, in-live}
-use Rattle.laws.specs.Extended.{head-in, last-in}
-use Rattle.laws.specs.Places.{first-least, last-most}
+use Rattle.laws.specs.Lists.{and-true, In, here, there, in-cons, in-nil, every-in, count-le, count-length, Rising, rising-true, above-in, above-rising, length-ids, found, live-in, in-live}
+use Rattle.laws.specs.Extended.{head-in}
+use Rattle.laws.specs.Places.{first-least}
 use Rattle.laws.specs.Keys.{key-below, key-above}
 use Rattle.laws.specs.Accepted.{member-accepts}
 use Rattle.laws.specs.Tables.{Formed, wellFormed-facts}
-use Rattle.theory.specs.New.{up-in, up-spares}
-use Rattle.theory.specs.Lookup.{Owned, CutOff, Answered, lookupAnswer-answers}
+use Rattle.theory.specs.New.{up-in, down-in, up-spares, down-spares}
+use Rattle.theory.specs.Lookup.{Answered, lookupAnswer-answers}
 use Rattle.theory.specs.Owners.{Finds, Owns}
 
 -- The statement
@@ -47,32 +47,6 @@ pub record Parted (ms : List Member) (ks : List ℕ) : Type 0 where
 in-some : {y : ℕ} {l : List ℕ} → In y l → 1 ≤ length l
 in-some (here e) = omega arith
 in-some (there m) = omega arith
-
--- The member before another
-
--- the last below x of rising numbers y ∷ l, where y is below x: one of them, and none lies between it and x
-abbrev Last : ℕ → ℕ → List ℕ → Type 0
-Last x y l = In (lastBelow x l y) (y ∷ l) × (lastBelow x l y < x) × ((q : ℕ) → In q (y ∷ l) → (q ≤ lastBelow x l y) ⊎ (x ≤ q))
-
-last-below : (x y : ℕ) (l : List ℕ) → Above y l → y < x → Last x y l
-last-below x y [] a h = (here refl, h, λ q i. ⊎-elim (λ e. inl (omega (arith, e))) (λ j. absurd (in-nil j)) (in-cons i))
-last-below x y (z ∷ l) a h = go (less? z x) (last-below x z l (a .1))
-  where
-    go : (z < x) ⊎ (x ≤ z) → (z < x → Last x z l) → Last x y (z ∷ l)
-    go (inl k) ih =
-        let w = ih k in
-        let up : z ≤ lastBelow x l z = ⊎-elim (λ g. g) (λ g. absurd (omega arith)) (w .2 z (here refl)) in
-        rw (lt-ltb z x k) (there (w .0), w .1, λ q i. ⊎-elim (λ e. inl (omega (arith, e, a .0))) (w .2 q) (in-cons i))
-    go (inr k) ih = rw (le-ltb z x k) (here refl, h, λ q i. ⊎-elim (λ e. inl (omega (arith, e))) (λ j. inr (⊎-elim (λ e. omega (arith, e)) (λ g. omega (arith, above-in l (a .1) g)) (in-cons j))) (in-cons i))
-
--- the next down from one of them is one of them, and the way up from it passes none
-next-down : (x : ℕ) (xs : List ℕ) → Rising xs → In x xs → In (nextDown xs x) xs × ((z : ℕ) → In z xs → Outside (nextDown xs x) z x)
-next-down x [] a i = absurd (in-nil i)
-next-down x (y ∷ l) a i = go (less? y x)
-  where
-    go : (y < x) ⊎ (x ≤ y) → In (nextDown (y ∷ l) x) (y ∷ l) × ((z : ℕ) → In z (y ∷ l) → Outside (nextDown (y ∷ l) x) z x)
-    go (inl h) = let w = last-below x y l a h in rw (lt-ltb y x h) (w .0, λ z j. ⊎-elim (λ g. below g (w .1)) (λ g. beyond (w .1) g) (w .2 z j))
-    go (inr h) = rw (le-ltb y x h) (last-in (y ∷ l) (omega arith), λ z j. rest (omega (arith, first-least (y ∷ l) a j)) (last-most (y ∷ l) a j))
 
 -- The first at or above a key
 
@@ -155,18 +129,24 @@ module _ (ms : List Member) (ks : List ℕ) (am : Rising (ids ms)) (ak : Rising 
   abbrev d : ℕ
   d = nextDown (ids ms) x
 
+  before-in : In d (ids ms)
+  before-in = down-in (ids ms) (in-some i) x
+
+  spared : (z : ℕ) → In z (ids ms) → Outside d z x
+  spared z j = down-spares (ids ms) am x z i j
+
   -- the lowest has the last before it, any other a lower one
   lowest-round : x ≡ lowest ms → x ≤ d
-  lowest-round e = omega (arith, e, first-least (ids ms) am (next-down x (ids ms) am i .0))
+  lowest-round e = omega (arith, e, first-least (ids ms) am before-in)
 
   else-below : (x ≡ lowest ms → ⊥) → d < x
-  else-below n = ⊎-elim (λ h. h) (λ h. absurd (n (sym (is-lowest (ids ms) am d x i (next-down x (ids ms) am i .1) h)))) (less? d x)
+  else-below n = ⊎-elim (λ h. h) (λ h. absurd (n (sym (is-lowest (ids ms) am d x i spared h)))) (less? d x)
 
   owned : (k : ℕ) → Owns d k x → eqb x (holder ms k) ≡ true
-  owned k o = eq-eqb x (holder ms k) (sym (owner-holds (ids ms) am d x i (next-down x (ids ms) am i .1) k o))
+  owned k o = eq-eqb x (holder ms k) (sym (owner-holds (ids ms) am d x i spared k o))
 
   other : (k : ℕ) → (Owns d k x → ⊥) → eqb x (holder ms k) ≡ false
-  other k n = let w = next-down x (ids ms) am i in ne-eqb x (holder ms k) (λ e. n (holder-owns (ids ms) am d x i (w .1) k (w .0) (sym e)))
+  other k n = ne-eqb x (holder ms k) (λ e. n (holder-owns (ids ms) am d x i spared k before-in (sym e)))
 
   module _ (p : ℕ) (h : p < length ks) where
     abbrev key : ℕ

@@ -7,7 +7,7 @@ use Prim.Native.Nat.{ℕ, zero, suc, _+_, _≤_, _<_}
 use native.Mathlib.Omega.{arith}
 use lib.ListN.{length, getD, length-map}
 use lib.Dec.{ltb}
-use borrow.Author.Tests.{ltb-true, ltb-false, leb-true, eq-eqb, not-false}
+use borrow.Author.Tests.{ltb-true, ltb-false, lt-ltb, le-ltb, leb-true, eq-eqb, not-false}
 use Rattle.model.specs.Lists.{if_then_else_, every, count, lastOf}
 use Rattle.model.specs.Identifier.{space}
 use Rattle.model.specs.Table.{Member, ids, size, tableOf}
@@ -15,9 +15,9 @@ use Rattle.model.specs.Ring.{live, successor, skips, principal, hasLive, candid
 use Rattle.model.specs.New.{nextUps, newMember, newTable}
 use Rattle.model.specs.Refusals.{noNewTable, newRefusal}
 use Rattle.model.specs.Calls.{newWords}
-use Rattle.laws.specs.Places.{next-ups-length, first-least}
-use Rattle.laws.specs.Order.{Outside, below, beyond, rest, outside-false}
-use Rattle.laws.specs.Lists.{and-true, true-and, In, here, there, in-cons, in-nil, in-live, every-in, in-every, in-any, count-le, count-all, Rising, above-in, above-rising, rising-true}
+use Rattle.laws.specs.Places.{next-ups-length, first-least, last-most}
+use Rattle.laws.specs.Order.{less?, Outside, below, beyond, rest, outside-false}
+use Rattle.laws.specs.Lists.{and-true, true-and, In, here, there, in-cons, in-nil, in-live, every-in, in-every, in-any, count-le, count-all, Above, Rising, above-in, above-rising, rising-true}
 use Rattle.laws.specs.Tables.{Formed, FormedMember, Sound, facts-sound, formed-lists}
 use Rattle.laws.specs.Words.{written-table}
 use Rattle.laws.specs.Extended.{head-in, last-in}
@@ -59,6 +59,29 @@ above-spares x d q (y ∷ l) a i h = go (ltb x y) refl (in-cons i) (first-above 
 pub up-spares : (xs : List ℕ) → Rising xs → (x q : ℕ) → In q xs → Outside x q (nextUp xs x)
 up-spares xs a x q i = above-spares x (getD xs 0 0) q xs a i (first-least xs a i)
 
+-- nor between the last of them below x and x: of y ∷ l, where y is below x
+abbrev Last : ℕ → ℕ → List ℕ → Type 0
+Last x y l = (lastBelow x l y < x) × ((q : ℕ) → In q (y ∷ l) → (q ≤ lastBelow x l y) ⊎ (x ≤ q))
+
+below-spares : (x y : ℕ) (l : List ℕ) → Above y l → y < x → Last x y l
+below-spares x y [] a h = (h, λ q i. ⊎-elim (λ e. inl (omega (arith, e))) (λ j. absurd (in-nil j)) (in-cons i))
+below-spares x y (z ∷ l) a h = go (less? z x) (below-spares x z l (a .1))
+  where
+    go : (z < x) ⊎ (x ≤ z) → (z < x → Last x z l) → Last x y (z ∷ l)
+    go (inl k) ih =
+        let w = ih k in
+        let up : z ≤ lastBelow x l z = ⊎-elim (λ g. g) (λ g. absurd (omega arith)) (w .1 z (here refl)) in
+        rw (lt-ltb z x k) (w .0, λ q i. ⊎-elim (λ e. inl (omega (arith, e, a .0))) (w .1 q) (in-cons i))
+    go (inr k) ih = rw (le-ltb z x k) (h, λ q i. ⊎-elim (λ e. inl (omega (arith, e))) (λ j. inr (omega (arith, first-least (z ∷ l) (a .1) j))) (in-cons i))
+
+pub down-spares : (xs : List ℕ) → Rising xs → (x q : ℕ) → In x xs → In q xs → Outside (nextDown xs x) q x
+down-spares [] a x q i j = absurd (in-nil i)
+down-spares (y ∷ l) a x q i j = go (less? y x)
+  where
+    go : (y < x) ⊎ (x ≤ y) → Outside (nextDown (y ∷ l) x) q x
+    go (inl h) = let w = below-spares x y l a h in rw (lt-ltb y x h) (⊎-elim (λ g. below g (w .0)) (λ g. beyond (w .0) g) (w .1 q j))
+    go (inr h) = rw (le-ltb y x h) (rest (omega (arith, first-least (y ∷ l) a j)) (last-most (y ∷ l) a j))
+
 -- The records of the new table
 
 map-ids : (r : ℕ) (xs l : List ℕ) → ids (map (newMember r xs) l) ≡ l
@@ -73,7 +96,7 @@ module _ (xs : List ℕ) (some : 1 ≤ length xs) where
   pub up-in : (x : ℕ) → In (nextUp xs x) xs
   up-in x = ⊎-elim (λ i. i .0) (λ e. rw e (head-in xs some)) (first-above x xs (getD xs 0 0))
 
-  down-in : (x : ℕ) → In (nextDown xs x) xs
+  pub down-in : (x : ℕ) → In (nextDown xs x) xs
   down-in x = ⊎-elim (λ i. i) (λ e. rw e (last-in xs some)) (last-below x xs (lastOf xs))
 
   ups-in : (n x e : ℕ) → In e (nextUps n xs x) → In e xs
