@@ -1,6 +1,6 @@
 // The library for C: thin exports over the proved calls. include/ring.h declares them.
 ghost use mathlib.Core.Path.{_≡_};
-ghost use Rattle.model.specs.Calls.{joinAnswer, joinWords, stabilizeAnswer, stabilizeWords, rectifyAnswer, rectifyWords, failAnswer, failWords, leaveAnswer, leaveWords, lookupAnswer, auditAnswer, newAnswer, newWords, alikeAnswer, writeAnswer, writeBytes, readAnswer, readWords, findingsAnswer, findingsAfter, heldAnswer};
+ghost use Rattle.model.specs.Calls.{joinAnswer, joinWords, stabilizeAnswer, stabilizeWords, rectifyAnswer, rectifyWords, failAnswer, failWords, leaveAnswer, leaveWords, lookupAnswer, auditAnswer, newAnswer, newWords, alikeAnswer, writeAnswer, writeBytes, readAnswer, readWords, findingsAnswer, findingsAfter, heldAnswer, principalAnswer};
 ghost use Rattle.model.specs.Image.{fieldAt};
 ghost use Rattle.finding.specs.View.{views};
 ghost use Rattle.answer.specs.Packed.{packed};
@@ -149,4 +149,12 @@ pub extern "C" fn ring_held(table: &[u32], n: u32, keys: &[u32]) -> RunsAnswer
     ensures { λ a. ⌜ a ≡ packedRuns (heldAnswer (now (table .entry)) n (now (keys .entry))) ⌝ }
 {
     runs::numbers(held::held(table, n, keys))
+}
+
+// Is the member n a principal, and how many pairs did the test take?
+#[no_mangle]
+pub extern "C" fn ring_principal(table: &[u32], n: u32) -> Answer
+    ensures { λ a. ⌜ a ≡ packed (principalAnswer (now (table .entry)) n) ⌝ }
+{
+    tested::numbers(principal_test::principal_test(table, n))
 }

@@ -6,6 +6,7 @@ pub mod Extended
 pub mod Places
 pub mod Keys
 pub mod Words
+pub mod Pairs
 pub mod Tables
 pub mod Removed
 pub mod Parts

@@ -13,6 +13,7 @@ use Rattle.model.specs.Findings.{Finding, findings}
 use Rattle.model.specs.Alike.{alike}
 use Rattle.model.specs.Image.{imageOf, tableIn}
 use Rattle.model.specs.Held.{runsOf, bounds}
+use Rattle.model.specs.Pairs.{principalReply}
 use Rattle.model.specs.Refusals.{joinRefusal, memberRefusal, leaveRefusal, auditRefusal, findingsRefusal, alikeRefusal, newRefusal, writeRefusal, readRefusal, heldRefusal}
 
 -- a slice with the table T in the place of its old table, and all later words as they were
@@ -114,3 +115,8 @@ readWords ws bs = afterwards (readRefusal (length ws) bs) (written (tableIn bs) 
 
 unfoldable pub heldAnswer : List ℕ → ℕ → List ℕ → Answer
 heldAnswer ws n ks = answer (heldRefusal ws n ks) (accepted (bounds (runsOf (membersIn ws) n ks)))
+
+-- The principal test; it writes nothing
+
+unfoldable pub principalAnswer : List ℕ → ℕ → Answer
+principalAnswer ws n = answer (memberRefusal ws n) (accepted (principalReply (membersIn ws) n))

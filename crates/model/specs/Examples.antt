@@ -1,4 +1,4 @@
--- Document 01, "Table of settled examples": one statement over a list of cases, computed. Then the runs of document 02's Req 01 on one table.
+-- Document 01, "Table of settled examples": one statement over a list of cases, computed. Then document 02's Req 01 and Req 02.
 use Prim.Native.Nat.{ℕ}
 use mathlib.Core.Path.{_≡_, refl}
 use mathlib.Core.List.{List, [], _∷_, _++_, map}
@@ -10,8 +10,8 @@ use Rattle.model.specs.Ring.{named, sound, candidateInside}
 use Rattle.model.specs.Steps.{stabilize, stabilizeReply, nextStep}
 use Rattle.model.specs.New.{newTable}
 use Rattle.model.specs.Held.{runsOf}
-use Rattle.model.specs.Refusals.{newRefusal, noNewTable, memberRefusal, leaveRefusal, cutsOff, tooFewPrincipals, heldRefusal}
-use Rattle.model.specs.Calls.{stabilizeAnswer, stabilizeWords, newAnswer, newWords, leaveAnswer, heldAnswer}
+use Rattle.model.specs.Refusals.{full, newRefusal, noNewTable, joinRefusal, memberRefusal, leaveRefusal, cutsOff, tooFewPrincipals, heldRefusal}
+use Rattle.model.specs.Calls.{joinWords, stabilizeAnswer, stabilizeWords, newAnswer, newWords, leaveAnswer, heldAnswer, principalAnswer}
 
 -- a case: what the definitions compute, and what document 01 says
 pub record Case : Type 0 where
@@ -71,3 +71,22 @@ heldCases =
 pub held : map (λ c. c .computed) heldCases ≡ map (λ c. c .expected) heldCases
 unfolding heldAnswer heldRefusal runsOf newWords newRefusal noNewTable wellFormed formed formedMember
 held = refl
+
+-- the table of (h) after 25 joined by 20: the lists of 10, 20, 25 and 30 are 20 30, 30 10, 30 10 and 10 20
+abbrev pub joinedH : List ℕ
+joinedH = joinWords tableH 25 20
+
+-- principal or not, and the pairs taken: all 8, or 2, since the second pair of the first list, 20 30, skips 25; a lone member that its own list
+-- skips at the second pair of three, and at the last of two; and refused by 3, and by 1
+abbrev pub principalCases : List Case
+principalCases =
+    (principalAnswer joinedH 20 .values gives 1 ∷ 8 ∷ []) ∷
+    (principalAnswer joinedH 25 .values gives 0 ∷ 2 ∷ []) ∷
+    (principalAnswer (lone (40 ∷ 60 ∷ 70 ∷ [])) 50 .values gives 0 ∷ 2 ∷ []) ∷
+    (principalAnswer (lone (40 ∷ 60 ∷ [])) 50 .values gives 0 ∷ 2 ∷ []) ∷
+    (principalAnswer (lone (7 ∷ [])) 50 .values gives 1 ∷ 1 ∷ []) ∷
+    (principalAnswer joinedH 35 .number ∷ principalAnswer blank 35 .number ∷ [] gives 3 ∷ 1 ∷ []) ∷ []
+
+pub principal : map (λ c. c .computed) principalCases ≡ map (λ c. c .expected) principalCases
+unfolding principalAnswer memberRefusal between joinWords joinRefusal full newWords newRefusal noNewTable wellFormed formed formedMember
+principal = refl

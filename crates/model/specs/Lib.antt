@@ -1,4 +1,4 @@
--- Document 01 as definitions, in its order, and then what document 02 adds: Held.
+-- Document 01 as definitions, in its order, and then what document 02 adds: Held, Pairs.
 pub mod Lists
 pub mod Identifier
 pub mod Table
@@ -11,6 +11,7 @@ pub mod Alike
 pub mod TakeOver
 pub mod Image
 pub mod Held
+pub mod Pairs
 pub mod Refusals
 pub mod Calls
 pub mod Run

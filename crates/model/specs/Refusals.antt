@@ -38,7 +38,7 @@ joinRefusal ws j p = firstOf (
     (4 when not (between p j (successor (named (membersIn ws) p)))) ∷
     (5 when full ws) ∷ [])
 
--- a call of the member n that nothing else declines: stabilize, rectify, loss
+-- a call of the member n that nothing else declines: stabilize, rectify, loss, the principal test
 unfoldable pub memberRefusal : List ℕ → ℕ → ℕ
 memberRefusal ws n = firstOf (
     (1 when not (wellFormed ws)) ∷

@@ -13,6 +13,7 @@ pub mod New
 pub mod Lookup
 pub mod Owners
 pub mod Held
+pub mod Pairs
 pub mod Moves
 pub mod Images
 pub mod Demand3
