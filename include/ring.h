@@ -45,6 +45,7 @@
       ring_leave      14080
       ring_lookup       192
       ring_held         128
+      ring_principal     64
       ring_audit       2816
       ring_findings    3840
       ring_alike        128
@@ -128,6 +129,12 @@ struct ring_answer ring_lookup(const uint32_t *table, size_t words, uint32_t n, 
    from 0 to the number at or below n. Each key is in exactly one member's runs; where ring_audit's verdict is 2, ring_lookup gives that
    member as the key's owner from every member. Nothing is written. 1, 3, 12. */
 struct ring_runs ring_held(const uint32_t *table, size_t words, uint32_t n, const uint32_t *keys, size_t count);
+
+/* Is the member n a principal? The test takes the pairs of neighbours (a, b) in the members' extended lists, record by record, each list from
+   its front, and ends at the first with between(a, n, b), which skips n; a member's extended list is its identifier and then its r
+   successors. values: {0, pairs} no: so many pairs were taken, that one included; {1, members * r} yes: no pair skips n. As many members
+   have a yes as ring_audit counts principals. Nothing is written. 1, 3. */
+struct ring_answer ring_principal(const uint32_t *table, size_t words, uint32_t n);
 
 /* values: members, principals, ring members, verdict (0 not sound, 1 sound, 2 sound and ideal). Nothing is written. 1. */
 struct ring_answer ring_audit(const uint32_t *table, size_t words);

@@ -3,11 +3,10 @@
 use crate::same::{answer, Answer};
 #[cfg(feature = "whole")]
 use crate::same::{Finding, Runs};
+use crate::tables::{identifiers, table, Lists, MEMBERS};
 use crate::{library, same};
 use std::hint::black_box;
 
-const MEMBERS: usize = 256;
-const WORDS: usize = 3075;
 #[cfg(feature = "whole")]
 const BYTES: usize = 12301;
 
@@ -29,11 +28,17 @@ pub enum Call {
     Leave7,
     LeaveOk,
     Lookup,
-    Audit,
+    Audit(Lists),
+    /// The audit, on the Rust side with the principals counted one by one.
+    AuditEarly(Lists),
     Alike,
     /// With so many keys.
     #[cfg(feature = "whole")]
     Held(usize),
+    #[cfg(feature = "whole")]
+    PrincipalAll,
+    #[cfg(feature = "whole")]
+    PrincipalHalf,
     #[cfg(feature = "whole")]
     Findings,
     #[cfg(feature = "whole")]
@@ -55,18 +60,32 @@ pub const CALLS: &[(&str, Call)] = &[
     ("leave-refused-7", Call::Leave7),
     ("leave-accepted", Call::LeaveOk),
     ("lookup-255-moves", Call::Lookup),
-    ("audit", Call::Audit),
+    ("audit", Call::Audit(Lists::Settled)),
+    ("audit-half", Call::Audit(Lists::Half)),
+    ("audit-random", Call::Audit(Lists::Random)),
     ("alike", Call::Alike),
     #[cfg(feature = "whole")]
     ("held-100-keys", Call::Held(100)),
     #[cfg(feature = "whole")]
     ("held-10000-keys", Call::Held(10_000)),
     #[cfg(feature = "whole")]
+    ("principal-all", Call::PrincipalAll),
+    #[cfg(feature = "whole")]
+    ("principal-half", Call::PrincipalHalf),
+    #[cfg(feature = "whole")]
     ("findings", Call::Findings),
     #[cfg(feature = "whole")]
     ("image-write", Call::ImageWrite),
     #[cfg(feature = "whole")]
     ("image-read", Call::ImageRead),
+];
+
+/// What is counted too, but is no call of its own.
+pub const OTHERS: &[(&str, Call)] = &[
+    ("audit-early", Call::AuditEarly(Lists::Settled)),
+    ("audit-early-half", Call::AuditEarly(Lists::Half)),
+    ("audit-early-random", Call::AuditEarly(Lists::Random)),
+    ("restore", Call::Restore),
 ];
 
 /// The buffers of one side, and the numbers of the call.
@@ -85,17 +104,6 @@ pub struct Case {
     x: u32,
     y: u32,
     pub expected: Answer,
-}
-
-/// Rising identifiers, spread over the whole space by a fixed generator.
-fn identifiers(count: usize) -> Vec<u32> {
-    let mut state = 1u32;
-    (0..count as u32)
-        .map(|i| {
-            state = state.wrapping_mul(1664525).wrapping_add(1013904223);
-            (i << 24) + 1000 + (state >> 10)
-        })
-        .collect()
 }
 
 /// Strictly rising keys, evenly spread over the identifiers.
@@ -126,9 +134,11 @@ impl Case {
             MEMBERS
         };
         let ids = identifiers(count);
-        let mut table = vec![0; WORDS];
-        let made = same::new(&mut table, r, &ids);
-        assert_eq!(made, answer(0, [count as u32]));
+        let lists = match call {
+            Call::Audit(lists) | Call::AuditEarly(lists) => lists,
+            _ => Lists::Settled,
+        };
+        let mut table = table(lists, r, &ids);
         let width = r as usize + 4;
         let at = |k: usize| 3 + k * width;
         let n = count as u32;
@@ -183,12 +193,28 @@ impl Case {
                 y = x;
                 answer(0, [x, ids[99], n - 1])
             }
-            Call::Audit => answer(0, [n, n, n, 2]),
+            Call::Audit(lists) | Call::AuditEarly(lists) => match lists {
+                Lists::Settled => answer(0, [n, n, n, 2]),
+                Lists::Half => answer(0, [n, n / 2, n / 2, 1]),
+                Lists::Random => same::audit(&table),
+            },
             Call::Alike => answer(0, [1]),
             #[cfg(feature = "whole")]
             Call::Held(_) => {
                 let up_to = |id: u32| keys.iter().filter(|&&key| key <= id).count() as u32;
                 answer(0, [up_to(ids[99]), up_to(x)])
+            }
+            #[cfg(feature = "whole")]
+            Call::PrincipalAll => answer(0, [1, n * r]),
+            #[cfg(feature = "whole")]
+            Call::PrincipalHalf => {
+                // The list in the middle, of the members after the next, is the only one that skips the next.
+                let middle = MEMBERS / 2;
+                for i in 0..r as usize {
+                    table[at(middle) + 4 + i] = ids[middle + 2 + i];
+                }
+                x = ids[middle + 1];
+                answer(0, [0, middle as u32 * r + 1])
             }
             #[cfg(feature = "whole")]
             Call::Findings => answer(0, [n, n, n, 2]),
@@ -276,7 +302,8 @@ macro_rules! runner {
                 Call::Lookup => {
                     repeat!($side::lookup(black_box(table), black_box(x), black_box(y)))
                 }
-                Call::Audit => repeat!($side::audit(black_box(table))),
+                Call::Audit(_) => repeat!($side::audit(black_box(table))),
+                Call::AuditEarly(_) => repeat!($side::audit_early(black_box(table))),
                 Call::Alike => repeat!($side::alike(black_box(table), black_box(other))),
                 #[cfg(feature = "whole")]
                 Call::Held(_) => {
@@ -289,6 +316,10 @@ macro_rules! runner {
                         ));
                     }
                     last = as_answer(runs);
+                }
+                #[cfg(feature = "whole")]
+                Call::PrincipalAll | Call::PrincipalHalf => {
+                    repeat!($side::principal(black_box(table), black_box(x)))
                 }
                 #[cfg(feature = "whole")]
                 Call::Findings => {

@@ -56,13 +56,16 @@ pub fn audit(words: &[u32]) -> Answer {
     unsafe { ring_audit(words.as_ptr(), words.len()) }
 }
 
+/// The library counts principals in one way.
+pub use self::audit as audit_early;
+
 #[inline(always)]
 pub fn alike(a: &[u32], b: &[u32]) -> Answer {
     unsafe { ring_alike(a.as_ptr(), a.len(), b.as_ptr(), b.len()) }
 }
 
 #[cfg(feature = "whole")]
-pub use whole::{findings, held, image_read, image_write};
+pub use whole::{findings, held, image_read, image_write, principal};
 
 #[cfg(feature = "whole")]
 mod whole {
@@ -76,6 +79,7 @@ mod whole {
             keys: *const u32,
             count: usize,
         ) -> Runs;
+        fn ring_principal(table: *const u32, words: usize, n: u32) -> Answer;
         fn ring_findings(
             table: *const u32,
             words: usize,
@@ -95,6 +99,11 @@ mod whole {
     #[inline(always)]
     pub fn held(words: &[u32], n: u32, keys: &[u32]) -> Runs {
         unsafe { ring_held(words.as_ptr(), words.len(), n, keys.as_ptr(), keys.len()) }
+    }
+
+    #[inline(always)]
+    pub fn principal(words: &[u32], n: u32) -> Answer {
+        unsafe { ring_principal(words.as_ptr(), words.len(), n) }
     }
 
     #[inline(always)]

@@ -3,10 +3,12 @@
 mod cases;
 mod library;
 mod same;
+mod tables;
 
-use cases::{agree, Call, Case, Side, CALLS};
+use cases::{agree, Call, Case, Side, CALLS, OTHERS};
 use std::process::exit;
 use std::time::{Duration, Instant};
+use tables::Lists;
 
 const LISTS: [u32; 2] = [8, 2];
 
@@ -62,24 +64,23 @@ impl Times {
     }
 }
 
-fn measure(call: Call, r: u32, effort: &Effort) -> (Times, Times) {
-    let times = batch(call, r, effort.batch);
-    let (mut ours, mut theirs) = (Vec::new(), Vec::new());
+/// The times of each side's call, taken in turns.
+fn measure<const COUNT: usize>(
+    sides: [(Call, Side); COUNT],
+    r: u32,
+    effort: &Effort,
+) -> [Times; COUNT] {
+    let batches = sides.map(|(call, _)| batch(call, r, effort.batch));
+    let mut all = [(); COUNT].map(|_| Times(Vec::new()));
     for round in 0..effort.rounds {
-        let order = if round % 2 == 0 {
-            [Side::Library, Side::Rust]
-        } else {
-            [Side::Rust, Side::Library]
-        };
-        for side in order {
+        for turn in 0..COUNT {
+            let i = (round + turn) % COUNT;
+            let ((call, side), times) = (sides[i], batches[i]);
             let each = time(call, r, side, times).as_nanos() as f64 / times as f64;
-            match side {
-                Side::Library => ours.push(each),
-                Side::Rust => theirs.push(each),
-            }
+            all[i].0.push(each);
         }
     }
-    (Times(ours), Times(theirs))
+    all
 }
 
 /// The table of the calls named, or of all; nothing if a name is unknown.
@@ -98,7 +99,7 @@ fn report(effort: &Effort, names: &[String]) -> Option<()> {
         }
         for r in LISTS {
             agree(name, call, r);
-            let (ours, theirs) = measure(call, r, effort);
+            let [ours, theirs] = measure([(call, Side::Library), (call, Side::Rust)], r, effort);
             println!(
                 "{name:<18} {r:>1} {:>12.1} {:>12.1} {:>7.2} {:>12.1} {:>12.1} {:>7.2}",
                 ours.best(),
@@ -113,13 +114,42 @@ fn report(effort: &Effort, names: &[String]) -> Option<()> {
     Some(())
 }
 
+/// The audit with what the lists skip marked as ranges, beside the one that tests each member by itself up to the first pair
+/// that skips it.
+fn early(effort: &Effort) {
+    println!(
+        "{:<13} {:>1} {:>12} {:>12} {:>12} {:>14}",
+        "lists", "r", "library ns", "ranges ns", "early ns", "early / ranges"
+    );
+    for (name, lists) in [
+        ("settled", Lists::Settled),
+        ("half settled", Lists::Half),
+        ("random", Lists::Random),
+    ] {
+        for r in LISTS {
+            let (ranges, early) = (Call::Audit(lists), Call::AuditEarly(lists));
+            agree(name, ranges, r);
+            agree(name, early, r);
+            let sides = [
+                (ranges, Side::Library),
+                (ranges, Side::Rust),
+                (early, Side::Rust),
+            ];
+            let [library, ranges, early] = measure(sides, r, effort).map(|times| times.best());
+            println!(
+                "{name:<13} {r:>1} {library:>12.1} {ranges:>12.1} {early:>12.1} {:>14.2}",
+                early / ranges
+            );
+        }
+    }
+}
+
 /// One call on one side only, so often: for a counter of instructions.
 fn count(words: &[String]) -> Option<()> {
     let [name, r, side, times] = words else {
         return None;
     };
-    let restore = ("restore", Call::Restore);
-    let &(_, call) = CALLS.iter().chain([&restore]).find(|(n, _)| n == name)?;
+    let &(_, call) = CALLS.iter().chain(OTHERS).find(|(n, _)| n == name)?;
     let r = r.parse().ok().filter(|r| (1..=8).contains(r))?;
     let side = match side.as_str() {
         "library" => Side::Library,
@@ -137,6 +167,10 @@ fn main() {
     let done = match words.first().map(String::as_str) {
         Some("--quick") => report(&QUICK, &words[1..]),
         Some("--count") => count(&words[1..]),
+        Some("--early") if words.len() == 1 => {
+            early(&USUAL);
+            Some(())
+        }
         Some("--calls") if words.len() == 1 => {
             CALLS.iter().for_each(|(name, _)| println!("{name}"));
             Some(())
@@ -144,7 +178,9 @@ fn main() {
         _ => report(&USUAL, &words),
     };
     if done.is_none() {
-        eprintln!("bench [--quick] [CALL...] | --calls | --count CALL R library|rust TIMES");
+        eprintln!(
+            "bench [--quick] [CALL...] | --early | --calls | --count CALL R library|rust TIMES"
+        );
         exit(2);
     }
 }

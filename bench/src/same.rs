@@ -283,6 +283,30 @@ impl<'a> Table<'a> {
         count_of(&self.principal_bits()[..self.members], 1)
     }
 
+    /// Which pair of the extended lists is the first that skips x, from 1: record by record, each list from its front.
+    #[inline]
+    fn first_skip(&self, x: u32) -> Option<usize> {
+        let mut taken = 0;
+        for record in self.records() {
+            let mut a = record[0];
+            for &b in &record[4..] {
+                taken += 1;
+                if between(a, x, b) {
+                    return Some(taken);
+                }
+                a = b;
+            }
+        }
+        None
+    }
+
+    /// The same count, each member tested by itself up to the first pair that skips it.
+    fn count_principals_early(&self) -> usize {
+        self.records()
+            .filter(|record| self.first_skip(record[0]).is_none())
+            .count()
+    }
+
     /// 0 not sound, 1 sound, 2 sound and ideal.
     fn verdict(&self, best: &[u16], principals: usize) -> u32 {
         let sound = best.iter().all(|&b| usize::from(b) < self.members)

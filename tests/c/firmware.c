@@ -1,6 +1,6 @@
 /* A firmware main loop in small: it starts a ring, lets shelves join, stabilize and leave, saves and restores the table, looks keys up, and
-   asks which keys a shelf holds. Every call of include/ring.h is used, and each answer is compared with what documents 01 and 02 say. Exit
-   status 0, and 'firmware: N checks' on standard output. */
+   asks which keys a shelf holds and whether it is a principal. Every call of include/ring.h is used, and each answer is compared with what
+   documents 01 and 02 say. Exit status 0, and 'firmware: N checks' on standard output. */
 
 #include "ring.h"
 #include <stdio.h>
@@ -78,6 +78,21 @@ static size_t screen(const uint32_t *table, size_t words, const uint32_t *keys, 
     return all;
 }
 
+/* Asks each member whether it is a principal. Returns how many are, or 257 where the audit counts another number, a principal did not take all
+   pairs, or another took none or more than all. */
+static uint32_t principals(const uint32_t *table, size_t words)
+{
+    const uint32_t r = table[0], all = table[1] * r;
+    uint32_t member, count = 0;
+    for (member = 0; member < table[1]; member++) {
+        const struct ring_answer a = ring_principal(table, words, table[RING_TABLE_WORDS(r, member)]);
+        if (a.number != 0 || a.count != 2 || a.values[0] > 1) return 257;
+        if (a.values[0] == 1 ? a.values[1] != all : a.values[1] == 0 || a.values[1] > all) return 257;
+        count += a.values[0];
+    }
+    return ring_audit(table, words).values[1] == count ? count : 257;
+}
+
 /* Again and again: on a lone member with r = 1 whose only entry is dead, each step tries the next identifier, and says again until it comes to
    the member itself. Nothing else ends it: from the identifier after the member's own it would take 4294967295 steps. */
 static uint32_t agains(uint32_t *table, size_t words, uint32_t before)
@@ -110,6 +125,9 @@ int main(void)
     expect("stabilize 20", ring_stabilize(table, words, 20), 0, 2, 1, 25, 0, 0);
     expect("stabilize 20 again", ring_stabilize(table, words, 20), 0, 2, 2, 25, 0, 0);
     expect("audit", ring_audit(table, words), 0, 4, 5, 4, 5, 2);
+    expect("the list of 10, with 20 and 30, skips 25", ring_principal(table, words, 25), 0, 2, 0, 2, 0, 0);
+    expect("no list skips 20", ring_principal(table, words, 20), 0, 2, 1, 10, 0, 0);
+    expect_true("four principals", principals(table, words) == 4);
     expect("join a member", ring_join(table, words, 30, 20), 2, 0, 0, 0, 0, 0);
     expect("leave 10", ring_leave(table, words, 10), 0, 1, 4, 0, 0, 0);
     memcpy(kept, table, sizeof kept);
@@ -126,6 +144,7 @@ int main(void)
         for (at = 0; at < table[1]; at++) late += round_of(table, words, table[RING_TABLE_WORDS(2, at)]) == 0;
     expect_true("done within r + 1 steps", late == 0);
     expect("settled", ring_audit(table, words), 0, 4, 104, 104, 104, 2);
+    expect_true("all are principals", principals(table, words) == 104);
 
     /* Saved, looked at field by field, and restored. */
     a = ring_image_write(table, words, image, sizeof image);
@@ -187,6 +206,41 @@ int main(void)
         expect_runs("held by a lone shelf", ring_held(other, words, 7, keys, 5), 0, 2, 3, 5, 0, 3);
     }
 
+    /* Which shelves are principals, and after how many pairs that is known: a full ring, then with two lists that skip one shelf each, the
+       first by its first pair and the last by its last; a shelf that joined, and that only the list of its neighbour below skips; a lone shelf
+       that its own list skips; no shelf. */
+    {
+        const uint32_t lone[] = {2, 1, 0, 7, 7, 0, 0, 9, 8}, none[] = {8, 0, 0};
+        expect("a full ring", ring_new(other, words, 8, many, 256), 0, 1, 256, 0, 0, 0);
+        expect("no pair skips 0", ring_principal(other, words, 0), 0, 2, 1, 2048, 0, 0);
+        expect("nor 255", ring_principal(other, words, 255), 0, 2, 1, 2048, 0, 0);
+        expect_true("256 principals", principals(other, words) == 256);
+        for (i = 0; i < 8; i++) other[RING_TABLE_WORDS(8, 0) + 4 + i] = 2 + (uint32_t)i;
+        other[RING_TABLE_WORDS(8, 256) - 1] = 8;
+        memcpy(kept, other, sizeof kept);
+        expect("the first pair skips 1", ring_principal(other, words, 1), 0, 2, 0, 1, 0, 0);
+        expect("only the last pair skips 7", ring_principal(other, words, 7), 0, 2, 0, 2048, 0, 0);
+        expect("no pair skips 8", ring_principal(other, words, 8), 0, 2, 1, 2048, 0, 0);
+        expect_true("254 principals", principals(other, words) == 254);
+        expect("no table", ring_principal(other, RING_TABLE_WORDS(8, 256) - 1, 7), 1, 0, 0, 0, 0, 0);
+        expect("no table and no member", ring_principal(other, 2, 256), 1, 0, 0, 0, 0, 0);
+        expect("no member", ring_principal(other, words, 256), 3, 0, 0, 0, 0, 0);
+        expect("no member 4294967295", ring_principal(other, words, 4294967295u), 3, 0, 0, 0, 0, 0);
+        expect_true("the test writes nothing", memcmp(kept, other, sizeof kept) == 0);
+
+        ring_new(other, words, 1, ids, 4);
+        ring_join(other, words, 35, 30);
+        expect("the third list skips 35", ring_principal(other, words, 35), 0, 2, 0, 3, 0, 0);
+        expect("no list skips 30", ring_principal(other, words, 30), 0, 2, 1, 5, 0, 0);
+        expect_true("the four before are principals", principals(other, words) == 4);
+
+        memcpy(other, lone, sizeof lone);
+        expect("a lone shelf skipped", ring_principal(other, words, 7), 0, 2, 0, 2, 0, 0);
+        expect_true("no principal", principals(other, words) == 0);
+        memcpy(other, none, sizeof none);
+        expect("no shelf", ring_principal(other, words, 7), 3, 0, 0, 0, 0, 0);
+    }
+
     /* The take-over choice. */
     {
         const uint32_t h_list[] = {30, 40, 10}, c_list[] = {25, 30};
@@ -212,6 +266,11 @@ int main(void)
         expect("an image of two rings", ring_image_write(other, words, image, sizeof image), 0, 1, RING_IMAGE_BYTES(1, 4), 0, 0, 0);
         expect("is read", ring_image_read(other, words, image, RING_IMAGE_BYTES(1, 4)), 0, 1, 4, 0, 0, 0);
         expect("and not sound", ring_audit(other, words), 0, 4, 4, 0, 4, 0);
+        expect("the first list skips 20", ring_principal(other, words, 20), 0, 2, 0, 1, 0, 0);
+        expect("the second 30", ring_principal(other, words, 30), 0, 2, 0, 2, 0, 0);
+        expect("the third 40", ring_principal(other, words, 40), 0, 2, 0, 3, 0, 0);
+        expect("the last 10", ring_principal(other, words, 10), 0, 2, 0, 4, 0, 0);
+        expect_true("no principals", principals(other, words) == 0);
     }
 
     /* Refusals. */

@@ -9,11 +9,12 @@
 #include <string.h>
 #include <ucontext.h>
 
-enum { STACK = 1 << 16, PAINT = 0xa5, CALLS = 15, HELD = 14, KEYS = 100000 };
+enum { STACK = 1 << 16, PAINT = 0xa5, CALLS = 16, HELD = 14, PRINCIPAL = 15, KEYS = 100000 };
 
 static const char *const names[CALLS] = {"ring_new",        "ring_join",        "ring_stabilize",  "ring_rectify",    "ring_fail",
                                          "ring_leave",      "ring_lookup",      "ring_audit",      "ring_findings",   "ring_alike",
-                                         "ring_take_over",  "ring_image_write", "ring_image_read", "ring_image_field", "ring_held"};
+                                         "ring_take_over",  "ring_image_write", "ring_image_read", "ring_image_field", "ring_held",
+                                         "ring_principal"};
 
 /* The numbers that each call can answer, a bit each. */
 #define BIT(n) (1u << (n))
@@ -33,6 +34,7 @@ static const uint32_t numbers[CALLS] = {
     BIT(0) | BIT(9) | BIT(10), /* image_read */
     BIT(0) | BIT(9),
     BIT(0) | BIT(1) | BIT(3) | BIT(12), /* held */
+    BIT(0) | BIT(1) | BIT(3),
 };
 
 static unsigned char painted[STACK];
@@ -40,6 +42,7 @@ static ucontext_t back, there;
 static size_t deepest[CALLS];
 static uint32_t met[CALLS], replies; /* the numbers answered; the replies of stabilize: again, look, done */
 static uint32_t held_runs;           /* one run, two runs */
+static uint32_t principals;          /* not a principal, a principal */
 
 static uint32_t table[RING_TABLE_WORDS_MOST], other[RING_TABLE_WORDS_MOST];
 static uint8_t image[RING_IMAGE_BYTES_MOST];
@@ -71,6 +74,7 @@ static struct ring_answer make(void)
     case 10: return ring_take_over(a, b, r, ids, count, ids, count);
     case 11: return ring_image_write(table, words, image, bytes);
     case 12: return ring_image_read(other, words, image, bytes);
+    case PRINCIPAL: return ring_principal(table, words, a);
     default: return ring_image_field(image, bytes, at);
     }
 }
@@ -118,6 +122,7 @@ static void run(int c)
     met[c] |= BIT(c == HELD ? runs.number : answer.number);
     if (c == 2 && answer.number == 0) replies |= BIT(answer.values[0]);
     if (c == HELD && runs.number == 0) held_runs |= BIT(runs.runs);
+    if (c == PRINCIPAL && answer.number == 0) principals |= BIT(answer.values[0]);
 }
 
 static void on(uint32_t of_r, size_t members, uint32_t gap)
@@ -164,7 +169,12 @@ static void every(uint32_t of_r, size_t members)
     a = 0, b = 1, run(6);
     a = 1, run(6);
     held(0, last), held(1, last), held(2, last), held(KEYS, last);
-    a = 1, b = 0, run(1); /* accepted, or 5 on a full table */
+    a = 0, run(PRINCIPAL);
+    a = last, run(PRINCIPAL);
+    a = 1, run(PRINCIPAL);
+    a = 1, b = 0, run(1);  /* accepted, or 5 on a full table */
+    a = 1, run(PRINCIPAL); /* then skipped, or no member */
+    a = last, run(PRINCIPAL);
     a = 0, b = 0, run(1);
     a = 2, b = 3, run(1);
     a = last + 1, b = 0, run(1);
@@ -190,6 +200,7 @@ static void every(uint32_t of_r, size_t members)
     r = 40, count = 0, run(10);
     table[0] = 9, count = 256, bytes = sizeof image, a = 0, b = 0;
     for (c = 1; c <= 11; c++) run(c);
+    run(PRINCIPAL);
     count = KEYS, run(HELD);
 }
 
@@ -216,6 +227,10 @@ int main(void)
     }
     if (held_runs != (BIT(1) | BIT(2))) {
         printf("ring_held: the runs %x were met\n", held_runs);
+        missing = 1;
+    }
+    if (principals != (BIT(0) | BIT(1))) {
+        printf("ring_principal: the replies %x were met\n", principals);
         missing = 1;
     }
     return missing;

@@ -185,17 +185,29 @@ pub fn lookup(words: &[u32], n: u32, k: u32) -> Answer {
     answer(8, [t.id(at)])
 }
 
-#[inline(never)]
-pub fn audit(words: &[u32]) -> Answer {
+/// The audit, with its way to count the principals.
+#[inline(always)]
+fn audit_by(words: &[u32], count: impl Fn(&Table) -> usize) -> Answer {
     let Some(t) = Table::open(words) else {
         return declined(1);
     };
     let places = t.best_places();
     let best = &places[..t.members];
     let ring = count_of(&ring_bits(best)[..t.members], 1);
-    let principals = t.count_principals();
+    let principals = count(&t);
     let verdict = t.verdict(best, principals);
     reply([t.members as u32, principals as u32, ring as u32, verdict])
+}
+
+#[inline(never)]
+pub fn audit(words: &[u32]) -> Answer {
+    audit_by(words, |t| t.count_principals())
+}
+
+/// The audit, with the principals counted one by one.
+#[inline(never)]
+pub fn audit_early(words: &[u32]) -> Answer {
+    audit_by(words, |t| t.count_principals_early())
 }
 
 #[inline(never)]
@@ -212,7 +224,7 @@ pub fn alike(a: &[u32], b: &[u32]) -> Answer {
 }
 
 #[cfg(feature = "whole")]
-pub use whole::{findings, held, image_read, image_write};
+pub use whole::{findings, held, image_read, image_write, principal};
 
 #[cfg(feature = "whole")]
 mod whole {
@@ -279,6 +291,20 @@ mod whole {
             runs,
             start,
             end,
+        }
+    }
+
+    #[inline(never)]
+    pub fn principal(words: &[u32], n: u32) -> Answer {
+        let Some(t) = Table::open(words) else {
+            return declined(1);
+        };
+        if t.place(n).is_none() {
+            return declined(3);
+        }
+        match t.first_skip(n) {
+            Some(taken) => reply([0, taken as u32]),
+            None => reply([1, (t.members * t.r) as u32]),
         }
     }
 

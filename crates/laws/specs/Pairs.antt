@@ -1,6 +1,6 @@
--- The pairs of a table, and those that the test of a member takes: how many, and what they skip.
+-- The pairs of a table, and those that the test of a member takes: how many they are, and what they skip. Principals by lists and by pairs.
 use Prim.Native.Nat.{ℕ, _*_}
-use mathlib.Core.Path.{_≡_, refl, sym}
+use mathlib.Core.Path.{_≡_, refl, sym, ap, _∙_}
 use mathlib.Core.Bool.{Bool, true, false, not, _&&_, _||_, or-assoc}
 use mathlib.Core.List.{List, [], _∷_, _++_}
 use native.Mathlib.Nat.{suc-mul}
@@ -27,23 +27,35 @@ table-pairs r (m ∷ ms) h =
 
 -- What they skip
 
-pub any-append : {A : Type 0} (f : A → Bool) (l k : List A) → any f (l ++ k) ≡ (any f l || any f k)
+any-append : {A : Type 0} (f : A → Bool) (l k : List A) → any f (l ++ k) ≡ (any f l || any f k)
 any-append f [] k = refl
 any-append f (x ∷ l) k = rw (any-append f l k) (sym (or-assoc (f x) (any f l) (any f k)))
 
+-- the extended list of m skips x
+abbrev pub skipsIt : ℕ → Member → Bool
+skipsIt x m = skips x (m .id) (m .successors)
+
 module _ (x : ℕ) where
-  pub list-skips : (a : ℕ) (l : List ℕ) → any (skippedBy x) (neighbours a l) ≡ skips x a l
+  -- a principal is what no list skips
+  pub no-list : (ms : List Member) → principal ms x ≡ not (any (skipsIt x) ms)
+  no-list [] = refl
+  no-list (m ∷ ms) = go (skipsIt x m) (no-list ms)
+    where
+      go : (b : Bool) → principal ms x ≡ not (any (skipsIt x) ms) → (not b && principal ms x) ≡ not (b || any (skipsIt x) ms)
+      go true e = refl
+      go false e = e
+
+  list-skips : (a : ℕ) (l : List ℕ) → any (skippedBy x) (neighbours a l) ≡ skips x a l
   list-skips a [] = refl
   list-skips a (b ∷ l) = rw (list-skips b l)
 
-  -- a principal is what no pair skips
+  table-skips : (ms : List Member) → any (skippedBy x) (pairs ms) ≡ any (skipsIt x) ms
+  table-skips [] = refl
+  table-skips (m ∷ ms) = rw (any-append (skippedBy x) (neighbours (m .id) (m .successors)) (pairs ms), list-skips (m .id) (m .successors), table-skips ms)
+
+  -- and what no pair skips
   pub no-pair : (ms : List Member) → not (any (skippedBy x) (pairs ms)) ≡ principal ms x
-  no-pair [] = refl
-  no-pair (m ∷ ms) = rw (any-append (skippedBy x) (neighbours (m .id) (m .successors)) (pairs ms), list-skips (m .id) (m .successors)) (go (skips x (m .id) (m .successors)) (no-pair ms))
-    where
-      go : (b : Bool) → not (any (skippedBy x) (pairs ms)) ≡ principal ms x → not (b || any (skippedBy x) (pairs ms)) ≡ (not b && principal ms x)
-      go true e = refl
-      go false e = e
+  no-pair ms = ap not (table-skips ms) ∙ sym (no-list ms)
 
   -- The pairs taken
 

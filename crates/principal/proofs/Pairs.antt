@@ -1,9 +1,8 @@
 -- Pairs, lists and tables: what each turn of the loops leaves to mark. Assumes nothing.
-use Prim.Native.Nat.{ℕ, zero, suc, _+_, _≤_, _<_}
-use mathlib.Core.Path.{_≡_, refl, sym, _∙_}
+use Prim.Native.Nat.{ℕ, suc, _+_, _≤_, _<_}
+use mathlib.Core.Path.{_≡_, sym, _∙_}
 use mathlib.Core.List.{List, [], _∷_}
-use mathlib.Core.Bool.{Bool, true, false, not, _&&_, _||_, or-false, or-assoc, and-true, false≢true}
-use native.Mathlib.Nat.{le-of-suc-le-suc}
+use mathlib.Core.Bool.{true, false, _&&_, _||_, or-false, or-assoc, and-true, false≢true}
 use native.Mathlib.Numerals.{add-one}
 use native.Mathlib.Omega.{arith}
 use borrow.Author.Tests.{lt-ltb, le-ltb, le-leb, eq-eqb}
@@ -16,32 +15,15 @@ use Rattle.model.specs.Table.{Member, headerSize, membersIn, ids}
 use Rattle.model.specs.Ring.{nobody, skips, principal, principals}
 use Rattle.laws.specs.Lists.{true-and}
 use Rattle.laws.specs.Words.{members-length}
+use Rattle.laws.specs.Pairs.{skipsIt, no-list}
 use Rattle.table.specs.Formed.{Formed}
 use Rattle.table.specs.Rank.{rank}
-use Rattle.table.proofs.Members.{ids-count}
+use Rattle.table.proofs.Members.{id-of, ids-count}
 use Rattle.table.proofs.Place.{below-rank, above-rank, rank-past, rank-missing, stands, stands-there}
 use Rattle.places.specs.Each.{Each}
 use Rattle.places.proofs.Arrays.{each-counted, bit-one}
 use Rattle.principal.specs.Marks.{covered, Marks, Skipped, principalBit}
 use Rattle.principal.proofs.Reaches.{none-covered}
-
--- the extended list of m skips x
-abbrev skipsIt : ℕ → Member → Bool
-skipsIt x m = skips x (m .id) (m .successors)
-
--- a principal is what no list skips
-no-list : (x : ℕ) (ms : List Member) → principal ms x ≡ not (any (skipsIt x) ms)
-no-list x [] = refl
-no-list x (m ∷ ms) = go (skipsIt x m) (no-list x ms)
-  where
-    go : (b : Bool) → principal ms x ≡ not (any (skipsIt x) ms) → (not b && principal ms x) ≡ not (b || any (skipsIt x) ms)
-    go true e = refl
-    go false e = e
-
-id-of : (ms : List Member) (k : ℕ) → k < length ms → getD (ids ms) k 0 ≡ getD ms k nobody .id
-id-of [] k h = absurd (omega arith)
-id-of (m ∷ ms) zero h = refl
-id-of (m ∷ ms) (suc k) h = id-of ms k (le-of-suc-le-suc h)
 
 -- a list that is over skips nothing more
 pub list-over : (a : List ℕ) (x q : ℕ) (p : List ℕ) (j : ℕ) → length p ≤ 0 → (covered a j || skips x q p) ≡ covered a j
@@ -99,7 +81,7 @@ module _ (ws : List ℕ) where
     pub list-marked : (k : ℕ) → k < n → Marks n (λ j. skips (idAt j) (idAt k) (getD ms k nobody .successors)) a c → (j : ℕ) → j < n → (covered c j || any (skipsIt (idAt j)) (drop (k + 1) ms)) ≡ (covered a j || any (skipsIt (idAt j)) (drop k ms))
     list-marked k h m j l =
         let i : k < length ms = omega (arith, members-length (getD ws 0 0) n (drop headerSize ws)) in
-        rw (add-one k, drop-cons ms k nobody i, m .at j l, id-of ms k i) (or-assoc (covered a j) (skipsIt (idAt j) (getD ms k nobody)) (any (skipsIt (idAt j)) (drop (suc k) ms)))
+        rw (add-one k, drop-cons ms k nobody i, m .at j l, id-of ms k) (or-assoc (covered a j) (skipsIt (idAt j) (getD ms k nobody)) (any (skipsIt (idAt j)) (drop (suc k) ms)))
 
   -- `mark_skipped`: what is marked and what the lists from k on skip is all that is skipped
   abbrev pub Left : List ℕ → ℕ → Type 0

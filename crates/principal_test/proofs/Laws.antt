@@ -24,9 +24,9 @@ abbrev pub replyAfter : ℕ → ℕ → List Pair → List ℕ
 replyAfter c x ps = bit (not (any (skippedBy x) (taken x ps))) ∷ (c + length (taken x ps)) ∷ []
 
 module _ (x : ℕ) where
-  pub list-skips : (c : ℕ) (ps qs : List Pair) → spared x ps < length ps → 0 ∷ (c + spared x ps + 1) ∷ [] ≡ replyAfter c x (ps ++ qs)
-  list-skips c [] qs h = absurd (omega arith)
-  list-skips c (p ∷ ps) qs h = go (skippedBy x p) (list-skips (suc c) ps qs) h
+  pub reply-here : (c : ℕ) (ps qs : List Pair) → spared x ps < length ps → 0 ∷ (c + spared x ps + 1) ∷ [] ≡ replyAfter c x (ps ++ qs)
+  reply-here c [] qs h = absurd (omega arith)
+  reply-here c (p ∷ ps) qs h = go (skippedBy x p) (reply-here (suc c) ps qs) h
     where
       go : (b : Bool) → (spared x ps < length ps → 0 ∷ (suc c + spared x ps + 1) ∷ [] ≡ replyAfter (suc c) x (ps ++ qs)) → (if b then 0 else suc (spared x ps)) < suc (length ps) → 0 ∷ (c + (if b then 0 else suc (spared x ps)) + 1) ∷ [] ≡ bit (not (b || any (skippedBy x) (if b then [] else taken x (ps ++ qs)))) ∷ (c + suc (length (if b then [] else taken x (ps ++ qs)))) ∷ []
       go true ih l = let e : c + 0 + 1 ≡ c + 1 = omega arith in rw e
@@ -35,9 +35,9 @@ module _ (x : ℕ) where
           let f : c + suc (length (taken x (ps ++ qs))) ≡ suc c + length (taken x (ps ++ qs)) = omega arith in
           rw (e, f) (ih (le-of-suc-le-suc l))
 
-  pub list-spares : (c : ℕ) (ps qs : List Pair) → length ps ≤ spared x ps → replyAfter (c + length ps) x qs ≡ replyAfter c x (ps ++ qs)
-  list-spares c [] qs h = let e : c + 0 ≡ c = omega arith in rw e
-  list-spares c (p ∷ ps) qs h = go (skippedBy x p) (list-spares (suc c) ps qs) h
+  pub reply-later : (c : ℕ) (ps qs : List Pair) → length ps ≤ spared x ps → replyAfter (c + length ps) x qs ≡ replyAfter c x (ps ++ qs)
+  reply-later c [] qs h = let e : c + 0 ≡ c = omega arith in rw e
+  reply-later c (p ∷ ps) qs h = go (skippedBy x p) (reply-later (suc c) ps qs) h
     where
       go : (b : Bool) → (length ps ≤ spared x ps → replyAfter (suc c + length ps) x qs ≡ replyAfter (suc c) x (ps ++ qs)) → suc (length ps) ≤ (if b then 0 else suc (spared x ps)) → replyAfter (c + suc (length ps)) x qs ≡ bit (not (b || any (skippedBy x) (if b then [] else taken x (ps ++ qs)))) ∷ (c + suc (length (if b then [] else taken x (ps ++ qs)))) ∷ []
       go true ih l = absurd (omega arith)
@@ -108,7 +108,7 @@ module _ (ws : List ℕ) (f : Formed ws) (x c k before : ℕ) (h : k < getD ws 1
 
   -- the list at place k skips x, or not
   pub ends-here : before < getD ws 0 0 → 0 ∷ (c + before + 1) ∷ [] ≡ replyFrom ws x c k
-  ends-here l = rw (next-list, e) (list-skips x c ps (pairs (drop (suc k) ms)) (omega (arith, e, count-ps)))
+  ends-here l = rw (next-list, e) (reply-here x c ps (pairs (drop (suc k) ms)) (omega (arith, e, count-ps)))
 
   pub goes-on : getD ws 0 0 ≤ before → replyFrom ws x (c + getD ws 0 0) (suc k) ≡ replyFrom ws x c k
-  goes-on l = rw next-list (ap (λ (n : ℕ). replyFrom ws x (c + n) (suc k)) (sym count-ps) ∙ list-spares x c ps (pairs (drop (suc k) ms)) (omega (arith, e, count-ps)))
+  goes-on l = rw next-list (ap (λ (n : ℕ). replyFrom ws x (c + n) (suc k)) (sym count-ps) ∙ reply-later x c ps (pairs (drop (suc k) ms)) (omega (arith, e, count-ps)))

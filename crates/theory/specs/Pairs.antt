@@ -8,7 +8,7 @@ use mathlib.Core.List.{List, [], _∷_, _++_}
 use native.Mathlib.Omega.{arith}
 use borrow.Author.Tests.{not-true, not-false}
 use lib.ListN.{length, length-append}
-use Rattle.model.specs.Lists.{if_then_else_, any, bit}
+use Rattle.model.specs.Lists.{any, bit}
 use Rattle.model.specs.Identifier.{space}
 use Rattle.model.specs.Table.{Member, tableOf, membersIn, wellFormed}
 use Rattle.model.specs.Ring.{live, principal}

@@ -1,4 +1,4 @@
-//! The fifteen calls as one value, so that a side can be exchanged.
+//! The sixteen calls as one value, so that a side can be exchanged.
 
 use crate::reference::{Answer, Finding, Runs};
 
@@ -11,6 +11,7 @@ pub struct Calls {
     pub leave: fn(&mut [u32], u32) -> Answer,
     pub lookup: fn(&[u32], u32, u32) -> Answer,
     pub held: fn(&[u32], u32, &[u32]) -> Runs,
+    pub principal: fn(&[u32], u32) -> Answer,
     pub audit: fn(&[u32]) -> Answer,
     pub findings: fn(&[u32], &mut [Finding]) -> Answer,
     pub alike: fn(&[u32], &[u32]) -> Answer,
@@ -33,6 +34,7 @@ macro_rules! calls_of {
             leave: $($module)::+::leave,
             lookup: $($module)::+::lookup,
             held: $($module)::+::held,
+            principal: $($module)::+::principal,
             audit: $($module)::+::audit,
             findings: $($module)::+::findings,
             alike: $($module)::+::alike,

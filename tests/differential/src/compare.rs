@@ -2,11 +2,14 @@
 //! Answers and whole buffers, guards too, must be equal afterwards.
 
 mod parts;
+mod principal;
+mod shapes;
 
 use crate::calls::{Calls, REFERENCE};
 use crate::random::mix;
 use crate::reference::{Answer, Finding, Runs};
 use parts::Parts;
+use principal::Principals;
 use std::fmt::Debug;
 use std::sync::atomic::{AtomicUsize, Ordering};
 
@@ -27,7 +30,7 @@ fn watched<T>(index: usize, call: impl FnOnce() -> T) -> T {
     given
 }
 
-const CALLS: usize = 15;
+const CALLS: usize = 16;
 
 pub const NAMES: [&str; CALLS] = [
     "new",
@@ -38,6 +41,7 @@ pub const NAMES: [&str; CALLS] = [
     "leave",
     "lookup",
     "held",
+    "principal",
     "audit",
     "findings",
     "alike",
@@ -170,7 +174,7 @@ impl Reply for Answer {
 
     fn sort(&self, name: &str) -> u32 {
         match name {
-            "stabilize" | "rectify" | "alike" | "take_over" => self.values[0],
+            "stabilize" | "rectify" | "principal" | "alike" | "take_over" => self.values[0],
             "audit" | "findings" => self.values[3],
             _ => 0,
         }
@@ -192,8 +196,8 @@ impl Reply for Runs {
 }
 
 /// The numbers each call can give, in the order of `NAMES`. Stabilize's three
-/// replies and audit's three verdicts count as 0, 20 and 21, held's one run and
-/// two as 20 and 21.
+/// replies and audit's three verdicts count as 0, 20 and 21, no and yes as 0 and
+/// 20, held's one run and two as 20 and 21.
 const POSSIBLE: [&[usize]; CALLS] = [
     &[0, 10, 11],
     &[0, 1, 2, 3, 4, 5],
@@ -203,6 +207,7 @@ const POSSIBLE: [&[usize]; CALLS] = [
     &[0, 1, 3, 6, 7],
     &[0, 1, 3, 8],
     &[20, 21, 1, 3, 12],
+    &[0, 20, 1, 3],
     &[0, 20, 21, 1],
     &[0, 20, 21, 1, 10],
     &[0, 20, 1],
@@ -218,6 +223,7 @@ pub struct Compare {
     pub counts: [u64; CALLS],
     numbers: [[u64; 22]; CALLS],
     parts: Parts,
+    principals: Principals,
     /// Tells each call on standard error before it is made.
     pub trace: bool,
 }
@@ -238,6 +244,7 @@ impl Compare {
             counts: [0; CALLS],
             numbers: [[0; 22]; CALLS],
             parts: Parts::new(),
+            principals: Principals::new(),
             trace: false,
         }
     }
@@ -255,11 +262,12 @@ impl Compare {
                 .collect();
             text += &format!("  {name}: {}\n", met.join(", "));
         }
-        text + &format!("  parts: {}\n", self.parts.shapes())
+        text += &format!("  parts: {}\n", self.parts.told());
+        text + &format!("  principal: {}\n", self.principals.told())
     }
 
-    /// A call with a number that it can give but never gave, or what no table
-    /// was asked about all its members with.
+    /// A call with a number that it can give but never gave, or a shape that
+    /// never came up.
     pub fn never_met(&self) -> Option<String> {
         for (i, &name) in NAMES.iter().enumerate() {
             for &kind in POSSIBLE[i] {
@@ -268,7 +276,8 @@ impl Compare {
                 }
             }
         }
-        self.parts.never_met().map(|shape| format!("parts with {shape}"))
+        let parts = self.parts.never_met().map(|shape| format!("parts with {shape}"));
+        parts.or(self.principals.never_met().map(|shape| format!("principal with {shape}")))
     }
 
     /// Sorts an answer by its number, and a few by their reply too.
@@ -342,7 +351,7 @@ impl Compare {
     }
 
     /// A call on a table. Before and after it the members are asked for their
-    /// parts of some keys.
+    /// parts of some keys, and whether they are principals.
     fn on_table<B: Element, R: Reply>(
         &mut self,
         name: &str,

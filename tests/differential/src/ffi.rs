@@ -28,6 +28,7 @@ mod library {
             keys: *const u32,
             count: usize,
         ) -> Runs;
+        pub fn ring_principal(table: *const u32, words: usize, n: u32) -> Answer;
         pub fn ring_audit(table: *const u32, words: usize) -> Answer;
         pub fn ring_findings(
             table: *const u32,
@@ -100,6 +101,8 @@ forward! {
         = ring_lookup(table.as_ptr(), table.len(), n, k);
     fn held(table: &[u32], n: u32, keys: &[u32]) -> Runs
         = ring_held(table.as_ptr(), table.len(), n, keys.as_ptr(), keys.len());
+    fn principal(table: &[u32], n: u32) -> Answer
+        = ring_principal(table.as_ptr(), table.len(), n);
     fn audit(table: &[u32]) -> Answer
         = ring_audit(table.as_ptr(), table.len());
     fn findings(table: &[u32], findings: &mut [Finding]) -> Answer

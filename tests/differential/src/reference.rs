@@ -224,6 +224,16 @@ impl Table {
             .collect()
     }
 
+    /// The pairs of neighbours of all extended lists, record by record, each list
+    /// from its front.
+    fn pairs(&self) -> Vec<(u32, u32)> {
+        let mut pairs = Vec::new();
+        for m in &self.members {
+            pairs.extend(m.extended_list().windows(2).map(|pair| (pair[0], pair[1])));
+        }
+        pairs
+    }
+
     fn principal_count(&self) -> usize {
         self.principals().iter().filter(|&&p| p).count()
     }
@@ -440,5 +450,23 @@ mod settled {
         assert_eq!(held(&table, 15, &[1, 1]), runs(3, &[]));
         assert_eq!(held(&table, 20, &[1, 1]), runs(12, &[]));
         assert_eq!(held(&table[..26], 20, &keys), runs(1, &[]));
+    }
+
+    #[test]
+    fn pairs_taken() {
+        let mut table = [0; 33];
+        new(&mut table, 2, &[10, 20, 30, 40]);
+        assert_eq!(principal(&table, 10), accept(&[1, 8]));
+        assert_eq!(principal(&table, 25), decline(3));
+        // The second pair of 10's list skips 25, and no pair another member.
+        join(&mut table, 25, 20);
+        assert_eq!(principal(&table, 25), accept(&[0, 2]));
+        assert_eq!(principal(&table, 20), accept(&[1, 10]));
+        assert_eq!(principal(&table[..32], 50), decline(1));
+        // Each pair skips another member, the last one 10.
+        let two = [1, 4, 0, 10, 30, 0, 0, 30, 20, 40, 0, 0, 40, 30, 10, 0, 0, 10, 40, 20, 0, 0, 20];
+        for (n, taken) in [(20, 1), (30, 2), (40, 3), (10, 4)] {
+            assert_eq!(principal(&two, n), accept(&[0, taken]));
+        }
     }
 }

@@ -3,9 +3,11 @@
 
 mod held;
 mod images;
+mod principal;
 
 use held::{held, held_calls};
 use images::{image, read_image};
+use principal::principal;
 
 use crate::compare::{Compare, Element, Piece};
 use crate::make::{self, Raw, Space};
@@ -17,7 +19,7 @@ type Result = std::result::Result<(), String>;
 type Round = fn(&mut Compare, &mut Random) -> Result;
 
 /// The kinds of rounds in turn.
-const KINDS: [(&str, Round); 16] = [
+const KINDS: [(&str, Round); 17] = [
     ("tiny", tiny),
     ("sound churn", sound_churn),
     ("broken", broken),
@@ -34,15 +36,16 @@ const KINDS: [(&str, Round); 16] = [
     ("sound churn", sound_churn),
     ("broken", broken),
     ("held", held),
+    ("principal", principal),
 ];
 
 /// Runs one round; the error tells what differs and how to see it again.
 pub fn round(compare: &mut Compare, seed: u64, number: u64) -> Result {
     let mut random = Random::new(mix(seed).wrapping_add(mix(number)));
     // Full tables take long, so they come in every fourth turn only.
-    let (kind, run) = match number % 64 {
+    let (kind, run) = match number as usize % (4 * KINDS.len()) {
         15 => ("full", full as Round),
-        _ => KINDS[number as usize % KINDS.len()],
+        turn => KINDS[turn % KINDS.len()],
     };
     run(compare, &mut random)
         .map_err(|text| format!("{text}  round {number} ({kind}), seed {seed}\n"))
@@ -80,6 +83,7 @@ fn member_calls(compare: &mut Compare, t: &Piece<u32>, n: u32, other: u32) -> Re
     compare.fail(t, n)?;
     compare.leave(t, n)?;
     compare.lookup(t, n, other)?;
+    compare.principal(t, n)?;
     compare.join(t, other, n)?;
     Ok(())
 }
@@ -145,6 +149,7 @@ fn tiny(compare: &mut Compare, random: &mut Random) -> Result {
             compare.stabilize(&t, n)?;
             compare.fail(&t, n)?;
             compare.leave(&t, n)?;
+            compare.principal(&t, n)?;
             for &other in &pool {
                 compare.join(&t, n, other)?;
                 compare.rectify(&t, n, other)?;
@@ -159,8 +164,10 @@ fn tiny(compare: &mut Compare, random: &mut Random) -> Result {
             if random.one_in(4) {
                 all_calls(compare, random, &cut, 1)?;
             } else {
+                let n = raw.records.first().map_or(0, |m| m.id);
                 compare.audit(&cut)?;
-                compare.fail(&cut, raw.records.first().map_or(0, |m| m.id))?;
+                compare.fail(&cut, n)?;
+                compare.principal(&cut, n)?;
             }
         }
     }
@@ -288,6 +295,9 @@ fn run_churn(compare: &mut Compare, random: &mut Random, sound: bool, length: us
         if random.one_in(25) {
             all_calls(compare, random, &t, 3)?;
         }
+        if random.one_in(3) {
+            compare.principal(&t, n)?;
+        }
     }
     all_calls(compare, random, &t, 4)
 }
@@ -332,6 +342,9 @@ fn full(compare: &mut Compare, random: &mut Random) -> Result {
     }
     let callers = make::names(random, t.slice(), 6);
     held_calls(compare, random, &t, &callers)?;
+    for n in [callers[0], callers[1], random.pick(&live), random.pick(&live)] {
+        compare.principal(&t, n)?;
+    }
     compare.findings(&t, &Piece::whole(filler(random, 256)))?;
     // An image of it, and one more member than there may be.
     let mut raw = Raw::of(t.slice());
@@ -350,7 +363,7 @@ fn full(compare: &mut Compare, random: &mut Random) -> Result {
     compare.join(&t, 5, raw.records[3].id)?;
 
     // 255 to 258 records, well-formed but for that.
-    let n = random.range(255, 258);
+    let n = random.pick(&[255, 256, 257, 257, 258]);
     let mut raw = make::well_formed(random, Some(n));
     let t = make::with_room(random, &raw.words(), raw.r as usize + 4);
     compare.audit(&t)?;

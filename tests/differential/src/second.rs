@@ -5,10 +5,12 @@
 mod calls;
 mod held;
 mod image;
+mod principal;
 
 pub use calls::*;
 pub use held::*;
 pub use image::*;
+pub use principal::*;
 
 use crate::reference::{Answer, Finding, Runs};
 use std::cell::Cell;
@@ -77,6 +79,34 @@ faults! {
     HeldNarrow: "positions taken as 16-bit numbers",
     HeldThreeLate: "12 given where 3 applies too",
     HeldRefusal: "a refusal by 12 with the runs",
+    PrincipalFirstPair: "first pair of the table left out",
+    PrincipalFirstUnasked: "first pair of the table counted and not asked",
+    PrincipalLastPair: "last pair of the table left out",
+    PrincipalHeads: "pairs taken from each list's second entry on",
+    PrincipalTails: "last pair of each list left out",
+    PrincipalRecordsDown: "pairs taken from the last record",
+    PrincipalListsDown: "pairs taken from the lists' backs",
+    PrincipalByEntry: "pairs taken entry by entry",
+    PrincipalFromOwn: "pairs taken from the member's own record on",
+    PrincipalNotOwn: "the member's own record left out",
+    PrincipalPast: "record after the last taken too",
+    PrincipalLower: "a pair skips its own lower end",
+    PrincipalUpper: "a pair skips its own upper end",
+    PrincipalNoTurn: "pairs round the end skip nobody",
+    PrincipalLive: "a pair that ends in a dead entry skips nobody",
+    PrincipalLone: "a single member always a principal",
+    PrincipalLastSkip: "pairs counted up to the last that skips",
+    PrincipalUncounted: "the pair that skips not counted",
+    PrincipalCountsOn: "all pairs counted after one that skips",
+    PrincipalWhole: "pairs counted by whole records",
+    PrincipalRecords: "records counted, not pairs",
+    PrincipalLong: "r + 1 pairs a member counted for a principal",
+    PrincipalNone: "no pairs counted for a principal",
+    PrincipalNarrow: "pairs counted in 11 bits",
+    PrincipalNot: "principal and not exchanged",
+    PrincipalSwapped: "principal and pairs exchanged",
+    PrincipalThreeFirst: "3 given where 1 applies too, by the principal test",
+    PrincipalAny: "the principal test of no member not refused",
     RingReached: "members that reach the ring counted on it",
     RingShort: "a ring of all members not walked to its end",
     FirstRingOnly: "only one of several rings counted",

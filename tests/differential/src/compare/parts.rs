@@ -1,8 +1,10 @@
 //! What the members of one table must answer together: their runs part every
 //! rising list of keys, each key lies in a run of its holder, and where the
-//! verdict is 2, find gives the holder as owner from every start. The answers
-//! are the library's; who holds a key is told by the paper's sentence.
+//! verdict is 2, find gives the holder as owner from every start; as many are
+//! principals as the audit counts. The answers are the library's; who holds a
+//! key is told by the paper's sentence.
 
+use super::shapes::Shapes;
 use super::{place, watched, Compare, Lent, Piece, Result};
 use crate::keys;
 use crate::random::Random;
@@ -26,27 +28,25 @@ pub struct Parts {
     marks: HashSet<u64>,
     tables: u64,
     finds: u64,
-    shapes: [u64; SHAPES.len()],
+    shapes: Shapes<{ SHAPES.len() }>,
 }
 
 impl Parts {
     pub fn new() -> Parts {
-        Parts { marks: HashSet::new(), tables: 0, finds: 0, shapes: [0; SHAPES.len()] }
+        Parts { marks: HashSet::new(), tables: 0, finds: 0, shapes: Shapes::new(SHAPES) }
     }
 
     pub fn never_met(&self) -> Option<&'static str> {
-        SHAPES.iter().zip(self.shapes).find(|&(_, met)| met == 0).map(|(&shape, _)| shape)
+        self.shapes.never_met()
     }
 
-    /// How often each shape came up.
-    pub fn shapes(&self) -> String {
-        let met: Vec<String> =
-            SHAPES.iter().zip(self.shapes).map(|(shape, met)| format!("{shape}: {met}")).collect();
-        met.join(", ")
+    pub fn told(&self) -> String {
+        self.shapes.told()
     }
 
     fn count(&mut self, ids: &[u32], keys: &[u32], verdict_2: bool) {
-        let met = [
+        self.tables += 1;
+        self.shapes.count([
             ids.len() == 1,
             ids.len() == 256,
             keys.is_empty(),
@@ -55,11 +55,7 @@ impl Parts {
             keys.first() == Some(&0),
             keys.last() == Some(&u32::MAX),
             verdict_2,
-        ];
-        self.tables += 1;
-        for (count, met) in self.shapes.iter_mut().zip(met) {
-            *count += met as u64;
-        }
+        ]);
     }
 }
 
@@ -73,11 +69,15 @@ fn mark(words: &[u32]) -> u64 {
 impl Compare {
     /// What `ask_parts` has done, for the report.
     pub fn parts(&self) -> String {
-        format!("keys parted on {} tables, {} owners found", self.parts.tables, self.parts.finds)
+        format!(
+            "keys parted on {} tables, {} owners found; principals counted on {} tables",
+            self.parts.tables, self.parts.finds, self.principals.tables
+        )
     }
 
     /// Asks all members of a well-formed table for their runs of one list of
-    /// keys, which follows from the words. Each table is asked once.
+    /// keys, which follows from the words, and whether they are principals. Each
+    /// table is asked once.
     pub(super) fn ask_parts(&mut self, words: &[u32]) -> Result<()> {
         let seed = mark(words);
         if !self.parts.marks.insert(seed) {
@@ -148,10 +148,12 @@ impl Compare {
                 }
             }
         }
+        self.ask_principals(&mut table, &ids, seed)?;
         for (before, after) in [(&before.0, &table), (&before.1, &list)] {
             let lines = before.differences(after);
             if !lines.is_empty() {
-                return Err(wrong("held", format!("a slice is written\n{}", lines.join("\n"))));
+                let what = format!("a slice is written\n{}", lines.join("\n"));
+                return Err(wrong("held, lookup, principal or audit", what));
             }
         }
         self.parts.count(&ids, &keys, verdict_2);

@@ -192,6 +192,25 @@ pub fn held(table: &[u32], n: u32, keys: &[u32]) -> Runs {
     }
 }
 
+/// All pairs in order, one after the other, up to the first that skips n; that
+/// one counts too. Where none does, members times r are taken.
+pub fn principal(table: &[u32], n: u32) -> Answer {
+    let Some(t) = Table::decode(table) else {
+        return decline(1);
+    };
+    if !t.is_live(n) {
+        return decline(3);
+    }
+    let mut taken = 0;
+    for (a, b) in t.pairs() {
+        taken += 1;
+        if between(a, n, b) {
+            return accept(&[0, taken]);
+        }
+    }
+    accept(&[1, t.count() * t.r as u32])
+}
+
 /// The identifiers of the members, if the table is well-formed.
 pub fn members(table: &[u32]) -> Option<Vec<u32>> {
     Table::decode(table).map(|t| t.members.iter().map(|m| m.identifier).collect())
