@@ -77,7 +77,7 @@ abbrev pub joinedH : List ℕ
 joinedH = joinWords tableH 25 20
 
 -- principal or not, and the pairs taken: all 8, or 2, since the second pair of the first list, 20 30, skips 25; a lone member that its own list
--- skips at the second pair of three, and at the last of two; and refused by 3, and by 1
+-- skips at the second pair of three, at the last of two, and not at all; and refused by 3, and by 1
 abbrev pub principalCases : List Case
 principalCases =
     (principalAnswer joinedH 20 .values gives 1 ∷ 8 ∷ []) ∷
