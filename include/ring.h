@@ -12,7 +12,8 @@
 
    Answers. number is 0, and the first count of the values are the reply, the others 0; or number is the refusal below, and then every
    buffer is as it was. ring_held has a struct of its own: number is 0, and the first runs of start and of end are the reply, the others 0;
-   or number is the refusal, and the rest is 0. The lowest number that applies is given, but ring_new tries 11 before 10.
+   or number is the refusal, and the rest is 0. The lowest number that applies is given, but ring_new tries 11 before 10, and ring_join 13
+   before 5.
 
       1  a table is not well-formed or longer than its slice
       2  the joining identifier is a member
@@ -26,6 +27,7 @@
      10  the output slice is too short
      11  new: r not 1 to 8, identifiers not strictly rising, fewer than r + 1, more than 256
      12  held: the keys are not strictly rising
+     13  the first entry of p is no member
 
    One ring. The promise is about seven calls: ring_join, ring_leave, ring_fail, ring_stabilize, ring_rectify, ring_lookup and ring_audit.
    From a sound table (ring_audit's verdict 1 or 2) every list of them, refused ones included, leads to a sound table, and on a sound table
@@ -100,7 +102,8 @@ struct ring_runs {
 struct ring_answer ring_new(uint32_t *table, size_t words, uint32_t r, const uint32_t *ids, size_t count);
 
 /* j becomes a member by p: predecessor p, p's list, nothing pending. The records above j move up. values: member count afterwards.
-   1, 2, 3, 4, 5. */
+   1, 2, 3, 4, 13, 5. Where 13 declines it, stabilize p until its first entry is a member, then join again; or join by another member. So
+   the first entry of a new member is a member, and none of its stabilize steps replies "again" while no member goes. */
 struct ring_answer ring_join(uint32_t *table, size_t words, uint32_t j, uint32_t p);
 
 /* One stabilize step of n, which adds 1 to the step count (up to 4294967295).

@@ -20,6 +20,7 @@ pub enum Side {
 pub enum Call {
     New,
     JoinFail,
+    JoinDead,
     StabilizeDone,
     StabilizeAgain,
     RectifySame,
@@ -52,6 +53,7 @@ pub enum Call {
 pub const CALLS: &[(&str, Call)] = &[
     ("new", Call::New),
     ("join-fail", Call::JoinFail),
+    ("join-dead", Call::JoinDead),
     ("stabilize-done", Call::StabilizeDone),
     ("stabilize-again", Call::StabilizeAgain),
     ("rectify-same", Call::RectifySame),
@@ -153,6 +155,12 @@ impl Case {
             Call::JoinFail => {
                 (x, y) = (ids[127] + 1, ids[127]);
                 answer(0, [n])
+            }
+            Call::JoinDead => {
+                // The loss leaves the member below it behind a dead first entry.
+                assert_eq!(same::fail(&mut table, ids[128]), answer(0, [n - 1]));
+                (x, y) = (ids[127] + 1, ids[127]);
+                answer(13, [])
             }
             Call::StabilizeDone => answer(0, [2, ids[101]]),
             Call::StabilizeAgain => {
@@ -285,6 +293,9 @@ macro_rules! runner {
                     black_box($side::join(black_box(table), black_box(x), black_box(y)));
                     $side::fail(black_box(table), black_box(x))
                 }),
+                Call::JoinDead => {
+                    repeat!($side::join(black_box(table), black_box(x), black_box(y)))
+                }
                 Call::StabilizeDone | Call::StabilizeAgain => {
                     repeat!($side::stabilize(black_box(table), black_box(x)))
                 }

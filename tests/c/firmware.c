@@ -1,6 +1,7 @@
-/* A firmware main loop in small: it starts a ring, lets shelves join, stabilize and leave, saves and restores the table, looks keys up, and
-   asks which keys a shelf holds and whether it is a principal. Every call of include/ring.h is used, and each answer is compared with what
-   documents 01 and 02 say. Exit status 0, and 'firmware: N checks' on standard output. */
+/* A firmware main loop in small: it starts a ring, lets shelves join, stabilize and leave, tries a join again that was declined behind a dead
+   neighbour, saves and restores the table, looks keys up, and asks which keys a shelf holds and whether it is a principal. Every call of
+   include/ring.h is used, and each answer is compared with what documents 01 and 02 say. Exit status 0, and 'firmware: N checks' on standard
+   output. */
 
 #include "ring.h"
 #include <stdio.h>
@@ -58,6 +59,18 @@ static uint32_t round_of(uint32_t *table, size_t words, uint32_t n)
     return 0;
 }
 
+/* A shelf joins by p. Where p's first entry is dead, the join is declined by 13: p makes a step, and the join is tried again. On a sound table r
+   steps are enough; on another the tries end all the same. Returns the number of the last one. */
+static uint32_t join_by(uint32_t *table, size_t words, uint32_t j, uint32_t p)
+{
+    uint32_t number = ring_join(table, words, j, p).number, steps;
+    for (steps = 0; number == 13 && steps < table[0]; steps++) {
+        ring_stabilize(table, words, p);
+        number = ring_join(table, words, j, p).number;
+    }
+    return number;
+}
+
 /* The placement screen: each member's keys, each looked up from every member. Returns how many keys were shown, 0 where one was shown twice,
    lies past the list, or has another owner. The table's r is 2 and its verdict 2; there are at most 64 keys. */
 static size_t screen(const uint32_t *table, size_t words, const uint32_t *keys, size_t count)
@@ -113,7 +126,7 @@ int main(void)
     const size_t words = RING_TABLE_WORDS_MOST;
     const uint32_t ids[] = {10, 20, 30, 40};
     struct ring_answer a;
-    size_t i, bytes, at, late = 0;
+    size_t i, bytes, at, late = 0, joined = 0;
 
     expect_true("sizes", sizeof(struct ring_answer) == 24 && sizeof(struct ring_finding) == 12 && sizeof(struct ring_runs) == 40);
 
@@ -137,7 +150,9 @@ int main(void)
     expect("lookup", ring_lookup(table, words, 30, 15), 0, 3, 20, 40, 1, 0);
 
     /* Churn: shelves join one after the other, and the ring settles; two rounds more bring the second entries up to date. */
-    for (i = 0; i < 100; i++) ring_join(table, words, 1000 + 7 * (uint32_t)i, i == 0 ? 40 : 1000 + 7 * ((uint32_t)i - 1));
+    for (i = 0; i < 100; i++)
+        joined += ring_join(table, words, 1000 + 7 * (uint32_t)i, i == 0 ? 40 : 1000 + 7 * ((uint32_t)i - 1)).number == 0;
+    expect_true("each of 100 joins is accepted", joined == 100);
     for (i = 0; i < 1000 && ring_audit(table, words).values[3] != 2; i++)
         for (at = 0; at < table[1]; at++) late += round_of(table, words, table[RING_TABLE_WORDS(2, at)]) == 0;
     for (i = 0; i < 2; i++)
@@ -167,6 +182,59 @@ int main(void)
     expect("findings", a, 0, 4, 104, 104, 104, 2);
     expect_true("the first finding", findings[0].id == 20 && findings[0].principal == 1 && findings[0].moves == 0);
     expect("findings too short", ring_findings(table, words, findings, 103), 10, 0, 0, 0, 0, 0);
+
+    /* No joining behind a dead neighbour. The loss of 20 leaves 10 before a dead entry: a join by 10 is declined by 13, and the table stays as it
+       was, until a step of 10 has cleared the entry; the new shelf's own first step then clears none. 2, 3 and 4 come before 13, and 13 before
+       5: the slice has room for the record, or one word less. */
+    {
+        const size_t four = RING_TABLE_WORDS(2, 4);
+        expect("four shelves", ring_new(other, words, 2, ids, 4), 0, 1, 4, 0, 0, 0);
+        expect("the loss of 20", ring_fail(other, four, 20), 0, 1, 3, 0, 0, 0);
+        expect("a sound ring", ring_audit(other, four), 0, 4, 3, 3, 3, 1);
+        memcpy(kept, other, sizeof kept);
+        expect("behind the dead 20", ring_join(other, four, 15, 10), 13, 0, 0, 0, 0, 0);
+        expect("13 before 5", ring_join(other, four - 1, 15, 10), 13, 0, 0, 0, 0, 0);
+        expect("5 behind a live neighbour", ring_join(other, four - 1, 35, 30), 5, 0, 0, 0, 0, 0);
+        expect("4 before 13", ring_join(other, four, 25, 10), 4, 0, 0, 0, 0, 0);
+        expect("4 before 13 and 5", ring_join(other, four - 1, 25, 10), 4, 0, 0, 0, 0, 0);
+        expect("2 before 13", ring_join(other, four, 40, 10), 2, 0, 0, 0, 0, 0);
+        expect("by the lost shelf", ring_join(other, four, 25, 20), 3, 0, 0, 0, 0, 0);
+        expect_true("no word is written", memcmp(kept, other, sizeof kept) == 0);
+        expect("10 clears the dead entry", ring_stabilize(other, four, 10), 0, 1, 0, 0, 0, 0);
+        expect("5 then", ring_join(other, four - 1, 15, 10), 5, 0, 0, 0, 0, 0);
+        expect("the same join", ring_join(other, four, 15, 10), 0, 1, 4, 0, 0, 0);
+        expect("the new shelf looks at the lost one", ring_stabilize(other, four, 15), 0, 2, 1, 20, 0, 0);
+        expect("and is done", ring_stabilize(other, four, 15), 0, 2, 2, 30, 0, 0);
+        expect("30 takes its notice", ring_rectify(other, four, 30, 15), 0, 1, 1, 0, 0, 0);
+        expect("sound still", ring_audit(other, four), 0, 4, 4, 3, 3, 1);
+    }
+
+    /* The same on the settled ring: each third of the shelves from 1000 on is withdrawn, and a new one joins by the shelf before it. On a full
+       table 13 comes before 5 too. */
+    {
+        size_t granted = 0, declined = 0, no_again = 0;
+        memcpy(other, table, sizeof other);
+        for (joined = 0, i = 1; i < 100; i += 3) {
+            const uint32_t lost = 1000 + 7 * (uint32_t)i;
+            granted += ring_leave(other, words, lost).number == 0;
+            declined += ring_join(other, words, lost - 3, lost - 7).number == 13;
+            joined += join_by(other, words, lost - 3, lost - 7) == 0;
+            no_again += ring_stabilize(other, words, lost - 3).values[0] != 0;
+        }
+        expect_true("33 withdrawals and joins, each declined at first", granted == 33 && declined == 33 && joined == 33);
+        expect_true("no new shelf clears a dead entry", no_again == 33);
+        expect("the ring is sound", ring_audit(other, words), 0, 4, 104, 71, 71, 1);
+
+        for (i = 0; i < 256; i++) many[i] = 4 * (uint32_t)i;
+        expect("256 shelves", ring_new(other, words, 2, many, 256), 0, 1, 256, 0, 0, 0);
+        expect("12 is lost", ring_fail(other, words, 12), 0, 1, 255, 0, 0, 0);
+        expect("17 joins", ring_join(other, words, 17, 16), 0, 1, 256, 0, 0, 0);
+        memcpy(kept, other, sizeof kept);
+        expect("13 on a full table", ring_join(other, words, 9, 8), 13, 0, 0, 0, 0, 0);
+        expect("4 on a full table", ring_join(other, words, 13, 8), 4, 0, 0, 0, 0, 0);
+        expect_true("no word of it is written", memcmp(kept, other, sizeof kept) == 0);
+        expect_true("5 after a step", join_by(other, words, 9, 8) == 5);
+    }
 
     /* Which keys a shelf holds: on the settled ring each key has one holder, and it is the owner that is found from every shelf. */
     {
@@ -229,7 +297,7 @@ int main(void)
         expect_true("the test writes nothing", memcmp(kept, other, sizeof kept) == 0);
 
         ring_new(other, words, 1, ids, 4);
-        ring_join(other, words, 35, 30);
+        expect("35 joins", ring_join(other, words, 35, 30), 0, 1, 5, 0, 0, 0);
         expect("the third list skips 35", ring_principal(other, words, 35), 0, 2, 0, 3, 0, 0);
         expect("no list skips 30", ring_principal(other, words, 30), 0, 2, 1, 5, 0, 0);
         expect_true("the four before are principals", principals(other, words) == 4);

@@ -20,7 +20,7 @@ static const char *const names[CALLS] = {"ring_new",        "ring_join",        
 #define BIT(n) (1u << (n))
 static const uint32_t numbers[CALLS] = {
     BIT(0) | BIT(10) | BIT(11), /* new */
-    BIT(0) | BIT(1) | BIT(2) | BIT(3) | BIT(4) | BIT(5),
+    BIT(0) | BIT(1) | BIT(2) | BIT(3) | BIT(4) | BIT(5) | BIT(13),
     BIT(0) | BIT(1) | BIT(3), /* stabilize */
     BIT(0) | BIT(1) | BIT(3),
     BIT(0) | BIT(1) | BIT(3), /* fail */
@@ -196,6 +196,12 @@ static void every(uint32_t of_r, size_t members)
     a = 0, b = 1, run(6);
     run(7);
     count = 256, run(8);
+    on(of_r, members, gap);
+    table[RING_TABLE_WORDS(of_r, 0) + 4] = 2, a = 1, b = 0, run(1);                     /* 13: a dead first entry */
+    words = RING_TABLE_WORDS(of_r, members), run(1);                                    /* 13, without room too */
+    a = 3, run(1);                                                                      /* 4, though it is dead */
+    words = RING_TABLE_WORDS_MOST;
+    table[RING_TABLE_WORDS(of_r, members - 1) + 4] = 1, a = last + 1, b = last, run(1); /* 13, round the end */
     a = 10, b = 30, r = 20, count = 256, run(10);
     r = 40, count = 0, run(10);
     table[0] = 9, count = 256, bytes = sizeof image, a = 0, b = 0;

@@ -55,6 +55,9 @@ pub fn join(words: &mut [u32], j: u32, p: u32) -> Answer {
     if !between(p, j, joiner.successors[0]) {
         return declined(4);
     }
+    if t.place(joiner.successors[0]).is_none() {
+        return declined(13);
+    }
     let (at, end, width) = (t.offset(k), t.offset(t.members), t.width);
     if t.members == MEMBERS_MOST || words.len() - end < width {
         return declined(5);

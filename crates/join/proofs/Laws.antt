@@ -1,15 +1,12 @@
 -- What the answer of `judged` says of a join. Assumes nothing.
 use Prim.Native.Nat.{ℕ, zero, suc}
 use mathlib.Core.Path.{_≡_, refl, ap}
-use mathlib.Core.Bool.{not}
 use mathlib.Core.List.{List}
 use native.Mathlib.Omega.{arith}
-use borrow.Author.Tests.{not-false}
-use Rattle.model.specs.Table.{membersIn, ids, wellFormed}
+use Rattle.model.specs.Table.{membersIn, ids}
 use Rattle.model.specs.Answer.{Answer, declined, answer, afterwards}
 use Rattle.model.specs.Refusals.{joinRefusal}
-use Rattle.laws.specs.Accepted.{none-applies, join-accepted}
-use Rattle.table.specs.Formed.{Formed}
+use Rattle.laws.specs.Accepted.{join-accepted}
 use Rattle.table.specs.Rank.{rank}
 use Rattle.table.proofs.Formed.{formed}
 use Rattle.table.proofs.Place.{rank-stands}
@@ -30,10 +27,6 @@ abbrev second : Entry → ℕ
 second (May at k) = k
 second (Declined c) = c
 
-join-formed : (ws : List ℕ) (j p : ℕ) → joinRefusal ws j p ≡ 0 → Formed ws
-unfolding joinRefusal
-join-formed ws j p h = formed ws (not-false _ (none-applies 0 (not (wellFormed ws)) _ h .0))
-
 module _ (ws : List ℕ) (j p : ℕ) where
   abbrev entered : ℕ → Entry
   entered c = entry c (rank (ids (membersIn ws)) j) (rank (ids (membersIn ws)) p)
@@ -44,8 +37,8 @@ module _ (ws : List ℕ) (j p : ℕ) where
     where
       go : (c : ℕ) → joinRefusal ws j p ≡ c → May at k ≡ entered c → (joinRefusal ws j p ≡ 0) × Admits ws at k j p
       go zero g e =
-          let f = join-formed ws j p g in
           let m = join-accepted ws j p g in
+          let f = formed ws (m .table) in
           (g, record { table = f; may = m; place = ap first e; stands = rank-stands ws p k f (m .by) (ap second e) })
       go (suc c) g e = absurd (omega (arith, ap side e))
 

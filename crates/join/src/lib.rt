@@ -51,6 +51,9 @@ fn judged(t: &[u32], j: u32, p: u32) -> Entry
         let m = table::member_at(t, k);
         let h = m.successors[0];
         if ident::between(p, j, h) {
+            let Search::Here(_) = table::find(t, h) else {
+                return Entry::Declined(13);
+            };
             if is_full(t) {
                 return Entry::Declined(5);
             }
@@ -89,7 +92,7 @@ fn admitted(t: &mut [u32], at: usize, k: usize, j: u32, p: u32) -> Count
     Count::Members(n)
 }
 
-// j joins by p: the member count afterwards, or 1, 2, 3, 4 or 5 with the table unchanged.
+// j joins by p: the member count afterwards, or 1, 2, 3, 4, 13 or 5 with the table unchanged.
 pub fn join(t: &mut [u32], j: u32, p: u32) -> Count
     ensures { λ a. ⌜ (answerOf a ≡ joinAnswer (now (t .entry)) j p) × (now (t .exit) ≡ joinWords (now (t .entry)) j p) ⌝ }
 {

@@ -28,14 +28,21 @@ pub unchanged : {A : Type 0} (k : ℕ) (new old : List A) → (k ≡ 0 → ⊥) 
 unchanged zero new old h = absurd (h refl)
 unchanged (suc k) new old h = refl
 
+-- a buffer afterwards has what the new contents have where no number declines the call, and the old ones
+pub afterwards-has : {A : Type 0} (P : List A → Type 0) (k : ℕ) (new old : List A) → (k ≡ 0 → P new) → P old → P (afterwards k new old)
+afterwards-has P zero new old h g = h refl
+afterwards-has P (suc k) new old h g = g
+
 pub none-applies : (n : ℕ) (b : Bool) (k : ℕ) → (if b then suc n else k) ≡ 0 → (b ≡ false) × (k ≡ 0)
 none-applies n true k h = absurd (omega arith)
 none-applies n false k h = (refl, h)
 
 pub record MayJoin (ws : List ℕ) (j p : ℕ) : Type 0 where
+  pub table : wellFormed ws ≡ true
   pub new : live (membersIn ws) j ≡ false
   pub by : live (membersIn ws) p ≡ true
   pub inside : between p j (successor (named (membersIn ws) p)) ≡ true
+  pub first-live : live (membersIn ws) (successor (named (membersIn ws) p)) ≡ true
   pub room : full ws ≡ false
 
 pub join-accepted : (ws : List ℕ) (j p : ℕ) → joinRefusal ws j p ≡ 0 → MayJoin ws j p
@@ -45,8 +52,13 @@ join-accepted ws j p h =
     let b = none-applies 1 _ _ (a .1) in
     let c = none-applies 2 _ _ (b .1) in
     let d = none-applies 3 _ _ (c .1) in
-    let e = none-applies 4 (full ws) 0 (d .1) in
-    record { new = b .0; by = not-false _ (c .0); inside = not-false _ (d .0); room = e .0 }
+    let e = none-applies 12 _ _ (d .1) in
+    let f = none-applies 4 (full ws) 0 (e .1) in
+    record { table = not-false _ (a .0); new = b .0; by = not-false _ (c .0); inside = not-false _ (d .0); first-live = not-false _ (e .0); room = f .0 }
+
+pub member-table : (ws : List ℕ) (n : ℕ) → memberRefusal ws n ≡ 0 → wellFormed ws ≡ true
+unfolding memberRefusal
+member-table ws n h = not-false _ (none-applies 0 (not (wellFormed ws)) _ h .0)
 
 pub member-accepted : (ws : List ℕ) (n : ℕ) → memberRefusal ws n ≡ 0 → live (membersIn ws) n ≡ true
 unfolding memberRefusal

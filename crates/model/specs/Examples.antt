@@ -1,17 +1,17 @@
--- Document 01, "Table of settled examples": one statement over a list of cases, computed. Then document 02's Req 01 and Req 02.
+-- Document 01, "Table of settled examples": one statement over a list of cases, computed. Then document 02's Req 01, Req 02 and Req 03.
 use Prim.Native.Nat.{ℕ}
 use mathlib.Core.Path.{_≡_, refl}
 use mathlib.Core.List.{List, [], _∷_, _++_, map}
-use lib.ListN.{length, replicate}
+use lib.ListN.{length, replicate, take}
 use Rattle.model.specs.Lists.{bit}
 use Rattle.model.specs.Identifier.{between, after}
-use Rattle.model.specs.Table.{membersIn, wordsOf, wellFormed, formed, formedMember}
+use Rattle.model.specs.Table.{size, tableOf, membersIn, wordsOf, wellFormed, formed, formedMember}
 use Rattle.model.specs.Ring.{named, sound, candidateInside}
 use Rattle.model.specs.Steps.{stabilize, stabilizeReply, nextStep}
 use Rattle.model.specs.New.{newTable}
 use Rattle.model.specs.Held.{runsOf}
 use Rattle.model.specs.Refusals.{full, newRefusal, noNewTable, joinRefusal, memberRefusal, leaveRefusal, cutsOff, tooFewPrincipals, heldRefusal}
-use Rattle.model.specs.Calls.{joinWords, stabilizeAnswer, stabilizeWords, newAnswer, newWords, leaveAnswer, heldAnswer, principalAnswer}
+use Rattle.model.specs.Calls.{joinAnswer, joinWords, stabilizeAnswer, stabilizeWords, failWords, newAnswer, newWords, leaveAnswer, heldAnswer, principalAnswer}
 
 -- a case: what the definitions compute, and what document 01 says
 pub record Case : Type 0 where
@@ -90,3 +90,25 @@ principalCases =
 pub principal : map (λ c. c .computed) principalCases ≡ map (λ c. c .expected) principalCases
 unfolding principalAnswer memberRefusal between joinWords joinRefusal full newWords newRefusal noNewTable wellFormed formed formedMember
 principal = refl
+
+-- the table of (h) after 20 was lost: the lists of 10 and 30 are 20 30 and 10 20; and the same without a word to spare
+abbrev pub lostH : List ℕ
+lostH = failWords tableH 20
+
+abbrev pub tightH : List ℕ
+tightH = take (size (tableOf lostH)) lostH
+
+-- what a join answers with room and without: by 10, whose first entry is no member, 13 before 5; 4 before 13; by 30, whose second entry alone is none,
+-- accepted, or 5; 2 and 3 before all of them. 13 leaves the slice as it was; after one stabilize step of 10, its first entry is 30, and the join is accepted
+abbrev pub joinCases : List Case
+joinCases =
+    (joinAnswer lostH 15 10 .number ∷ joinAnswer tightH 15 10 .number ∷ [] gives 13 ∷ 13 ∷ []) ∷
+    (joinAnswer lostH 25 10 .number ∷ joinAnswer tightH 25 10 .number ∷ [] gives 4 ∷ 4 ∷ []) ∷
+    (joinAnswer lostH 35 30 .number ∷ joinAnswer tightH 35 30 .number ∷ [] gives 0 ∷ 5 ∷ []) ∷
+    (joinAnswer lostH 30 10 .number ∷ joinAnswer lostH 15 20 .number ∷ [] gives 2 ∷ 3 ∷ []) ∷
+    (joinWords lostH 15 10 gives lostH) ∷
+    (joinAnswer (stabilizeWords lostH 10) 15 10 .values gives 3 ∷ []) ∷ []
+
+pub join : map (λ c. c .computed) joinCases ≡ map (λ c. c .expected) joinCases
+unfolding joinAnswer joinWords joinRefusal full failWords stabilizeWords stabilize nextStep after memberRefusal between newWords newRefusal noNewTable wellFormed formed formedMember
+join = refl

@@ -1,4 +1,4 @@
--- Document 01, "When a call is declined": for each call its causes in order of precedence; 0 where none applies.
+-- Document 01, "When a call is declined", and the rows that document 02 adds: for each call its causes in order of precedence; 0 where none applies.
 use Prim.Native.Nat.{ℕ, _+_, _-_}
 use mathlib.Core.Bool.{Bool, not, _&&_, _||_}
 use mathlib.Core.List.{List, [], _∷_}
@@ -36,6 +36,7 @@ joinRefusal ws j p = firstOf (
     (2 when live (membersIn ws) j) ∷
     (3 when not (live (membersIn ws) p)) ∷
     (4 when not (between p j (successor (named (membersIn ws) p)))) ∷
+    (13 when not (live (membersIn ws) (successor (named (membersIn ws) p)))) ∷
     (5 when full ws) ∷ [])
 
 -- a call of the member n that nothing else declines: stabilize, rectify, loss, the principal test

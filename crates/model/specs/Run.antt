@@ -1,6 +1,6 @@
 -- The seven calls of a list as one type, and the table that a list of them leads to.
 use Prim.Native.Nat.{ℕ}
-use mathlib.Core.Bool.{Bool, true, not, _&&_, _||_}
+use mathlib.Core.Bool.{Bool, true, false, not, _&&_, _||_}
 use mathlib.Core.List.{List, [], _∷_}
 use lib.Dec.{eqb}
 use Rattle.model.specs.Answer.{Answer}
@@ -69,3 +69,18 @@ grantedCall ws Audit = true
 unfoldable pub granted : List Call → List ℕ → Bool
 granted [] ws = true
 granted (c ∷ cs) ws = grantedCall ws c && granted cs (callWords ws c)
+
+-- a call by which a member goes: an accepted withdrawal or loss
+unfoldable pub goes : List ℕ → Call → Bool
+goes ws (Join j p) = false
+goes ws (Leave n) = accepts ws (Leave n)
+goes ws (Fail n) = accepts ws (Fail n)
+goes ws (Stabilize n) = false
+goes ws (Rectify n q) = false
+goes ws (Lookup n k) = false
+goes ws Audit = false
+
+-- by a list of calls no member goes
+unfoldable pub noneGoes : List Call → List ℕ → Bool
+noneGoes [] ws = true
+noneGoes (c ∷ cs) ws = not (goes ws c) && noneGoes cs (callWords ws c)

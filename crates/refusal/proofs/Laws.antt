@@ -1,14 +1,13 @@
 -- What the answer of `standing_of` says of the call. Assumes nothing.
 use Prim.Native.Nat.{ℕ, zero, suc}
 use mathlib.Core.Path.{_≡_, refl, sym, ap, _∙_}
-use mathlib.Core.Bool.{true, false, not}
+use mathlib.Core.Bool.{true, false}
 use mathlib.Core.List.{List}
 use native.Mathlib.Omega.{arith}
-use borrow.Author.Tests.{not-false}
 use Rattle.model.specs.Table.{membersIn, ids, wellFormed}
 use Rattle.model.specs.Answer.{Answer, declined, answer, afterwards}
 use Rattle.model.specs.Refusals.{memberRefusal}
-use Rattle.laws.specs.Accepted.{none-applies, declined-answer, unchanged, member-accepted}
+use Rattle.laws.specs.Accepted.{declined-answer, unchanged, member-table, member-accepted}
 use Rattle.table.specs.Formed.{Formed}
 use Rattle.table.specs.Rank.{rank}
 use Rattle.table.specs.Search.{Stands, searched}
@@ -54,15 +53,11 @@ numberOf (At k) = k
 numberOf (Declined c) = c
 
 module _ (ws : List ℕ) (n : ℕ) where
-  refused-formed : memberRefusal ws n ≡ 0 → Formed ws
-  unfolding memberRefusal
-  refused-formed h = formed ws (not-false _ (none-applies 0 (not (wellFormed ws)) _ h .0))
-
   pub called : (k : ℕ) → At k ≡ standingOf ws n → Called ws n k
   called k e = go (memberRefusal ws n) refl e
     where
       go : (c : ℕ) → memberRefusal ws n ≡ c → At k ≡ standing c (rank (ids (membersIn ws)) n) → Called ws n k
-      go zero g e = let f = refused-formed g in record { granted = g; table = f; stands = rank-stands ws n k f (member-accepted ws n g) (ap numberOf e) }
+      go zero g e = let f = formed ws (member-table ws n g) in record { granted = g; table = f; stands = rank-stands ws n k f (member-accepted ws n g) (ap numberOf e) }
       go (suc c) g e = absurd (omega (arith, ap side e))
 
   pub refused : (c : ℕ) → Declined c ≡ standingOf ws n → Refused ws n c

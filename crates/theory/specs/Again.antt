@@ -7,9 +7,7 @@ use mathlib.Core.List.{List, [], _∷_, _++_}
 use Prim.Native.Nat.{ℕ, zero, suc, _-_, _≤_, _<_}
 use native.Mathlib.Omega.{arith}
 use lib.ListN.{length, getD, replicate, drop, length-append, List·getD-append}
-use lib.Dec.{eqb}
-use borrow.Author.Tests.{eqb-false, eq-eqb}
-use Rattle.model.specs.Lists.{if_then_else_, any, contains}
+use Rattle.model.specs.Lists.{any, contains}
 use Rattle.model.specs.Identifier.{space}
 use Rattle.model.specs.Table.{Member, Table, ids, tableOf, membersIn, wellFormed}
 use Rattle.model.specs.Ring.{live, named, successor, isPending, sound}
@@ -18,12 +16,13 @@ use Rattle.model.specs.Steps.{isBetter, stabilize, stabilizeReply, replaced}
 use Rattle.model.specs.Refusals.{memberRefusal}
 use Rattle.model.specs.Calls.{stabilizeAnswer, stabilizeWords}
 use Rattle.model.specs.Run.{Stabilize, callWords, run}
-use Rattle.laws.specs.Lists.{In, in-cons, in-nil, found, live-in, or-true}
+use Rattle.laws.specs.Lists.{In, found, live-in, or-true}
 use Rattle.laws.specs.Accepted.{member-accepts}
 use Rattle.laws.specs.Tables.{wellFormed-facts, sound-facts}
 use Rattle.laws.specs.Stabilize.{done-pending, again, reply-look, reply-done, offered-better, step-live, step-dead, same-id}
-use Rattle.theory.specs.Keep.{replaced-ids}
-use Rattle.theory.specs.Runs.{Good, stabilize-good, stabilize-table}
+use Rattle.theory.specs.Keep.{replaced-ids, replaced-named}
+use Rattle.theory.specs.Left.{stabilize-table}
+use Rattle.theory.specs.Runs.{Good, stabilize-good}
 
 -- the next step of n replies "done"; or "look", and the one after it "done"
 pub data Settles (n : ℕ) (ws : List ℕ) : Type 0 where
@@ -57,16 +56,6 @@ in-front : (xs l : List ℕ) (z i : ℕ) → LiveAt xs l (suc i) → LiveAt xs (
 in-front xs [] z i a = absurd (omega (arith, a .inside))
 in-front xs (x ∷ l) z i a = record { inside = rw length-append (omega (arith, a .inside)); lives = ap (contains xs) (List·getD-append l (z ∷ []) 0 i (omega (arith, a .inside))) ∙ a .lives }
 
--- the record that stands in a member's place is found there
-named-replaced : (v : Member) (ms : List Member) → In (v .id) (ids ms) → named (replaced v ms) (v .id) ≡ v
-named-replaced v [] i = absurd (in-nil i)
-named-replaced v (m ∷ ms) i = go (eqb (m .id) (v .id)) refl (in-cons i) (named-replaced v ms)
-  where
-    go : (b : Bool) → eqb (m .id) (v .id) ≡ b → (v .id ≡ m .id) ⊎ In (v .id) (ids ms) → (In (v .id) (ids ms) → named (replaced v ms) (v .id) ≡ v) → named (if b then v ∷ ms else m ∷ replaced v ms) (v .id) ≡ v
-    go true e i ih = rw (eq-eqb (v .id) (v .id) refl)
-    go false e (inl q) ih = absurd (eqb-false (m .id) (v .id) e (sym q))
-    go false e (inr j) ih = rw e (ih j)
-
 module _ (n : ℕ) where
   -- a slice with a sound table that has n
   record With (ws : List ℕ) : Type 0 where
@@ -84,7 +73,7 @@ module _ (n : ℕ) where
     -- the members after a step of n
 
     members : membersIn (stabilizeWords ws n) ≡ replaced (stabilize space (membersIn ws) (named (membersIn ws) n)) (membersIn ws)
-    members = ap (λ (T : Table). T .members) (stabilize-table ws (g .good) n accepts)
+    members = ap (λ (T : Table). T .members) (stabilize-table ws n accepts)
 
     same-ids : ids (membersIn (stabilizeWords ws n)) ≡ ids (membersIn ws)
     same-ids = ap ids members ∙ replaced-ids (stabilize space (membersIn ws) (named (membersIn ws) n)) (membersIn ws)
@@ -94,7 +83,7 @@ module _ (n : ℕ) where
         let v = stabilize space (membersIn ws) (named (membersIn ws) n) in
         let i = live-in (membersIn ws) n (g .member) in
         let e : v .id ≡ n = same-id (membersIn ws) (named (membersIn ws) n) space ∙ found (membersIn ws) i .1 in
-        ap (λ (ms : List Member). named ms n) members ∙ subst (λ (x : ℕ). named (replaced v (membersIn ws)) x ≡ v) e (named-replaced v (membersIn ws) (subst (λ (x : ℕ). In x (ids (membersIn ws))) (sym e) i))
+        ap (λ (ms : List Member). named ms n) members ∙ subst (λ (x : ℕ). named (replaced v (membersIn ws)) x ≡ v) e (replaced-named v (membersIn ws) (subst (λ (x : ℕ). In x (ids (membersIn ws))) (sym e) i))
 
     next : With (stabilizeWords ws n)
     next = record { good = stabilize-good ws (g .good) n; member = subst (λ (xs : List ℕ). contains xs n ≡ true) (sym same-ids) (g .member) }

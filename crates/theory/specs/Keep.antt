@@ -1,5 +1,5 @@
 -- One lemma for all steps: a table keeps well-formed and sound if its members are the old ones and at most one fresh record.
-use mathlib.Core.Path.{_≡_, refl, sym, ap}
+use mathlib.Core.Path.{_≡_, refl, sym, ap, _∙_}
 use mathlib.Core.Logic.{_⊎_, inl, inr, ⊎-elim}
 use mathlib.Core.Bool.{Bool, true, false, not}
 use mathlib.Core.List.{List, [], _∷_}
@@ -7,10 +7,10 @@ use Prim.Native.Nat.{ℕ, suc, _≤_, _<_}
 use native.Mathlib.Omega.{arith}
 use lib.ListN.{length}
 use lib.Dec.{ltb, eqb}
-use borrow.Author.Tests.{eqb-true, ltb-true, ltb-false, not-false}
+use borrow.Author.Tests.{eqb-true, eqb-false, eq-eqb, ne-eqb, ltb-true, ltb-false, not-false}
 use Rattle.model.specs.Lists.{if_then_else_, any, count}
 use Rattle.model.specs.Table.{Member, Table, ids}
-use Rattle.model.specs.Ring.{live, skips, principal, hasLive, candidateInside}
+use Rattle.model.specs.Ring.{live, named, skips, principal, hasLive, candidateInside}
 use Rattle.model.specs.Steps.{withMembers, inserted, replaced, removed, without}
 use Rattle.model.specs.Refusals.{cutsOff, tooFewPrincipals}
 use Rattle.laws.specs.Lists.{In, here, there, in-cons, in-nil, live-in, in-live, count-le, every-in, in-every, any-in, in-any, Rising, Above}
@@ -94,6 +94,24 @@ replaced-from v m (n ∷ ms) i = go (eqb (n .id) (v .id)) i (replaced-from v m m
     go true i ih = ⊎-elim inl (λ k. inr (there k)) (in-cons i)
     go false i ih = ⊎-elim (λ e. inr (here e)) (λ k. ⊎-elim inl (λ j. inr (there j)) (ih k)) (in-cons i)
 
+-- it is found there, and all others as they were
+pub replaced-named : (v : Member) (ms : List Member) → In (v .id) (ids ms) → named (replaced v ms) (v .id) ≡ v
+replaced-named v [] i = absurd (in-nil i)
+replaced-named v (m ∷ ms) i = go (eqb (m .id) (v .id)) refl (in-cons i) (replaced-named v ms)
+  where
+    go : (b : Bool) → eqb (m .id) (v .id) ≡ b → (v .id ≡ m .id) ⊎ In (v .id) (ids ms) → (In (v .id) (ids ms) → named (replaced v ms) (v .id) ≡ v) → named (if b then v ∷ ms else m ∷ replaced v ms) (v .id) ≡ v
+    go true e i ih = rw (eq-eqb (v .id) (v .id) refl)
+    go false e (inl q) ih = absurd (eqb-false (m .id) (v .id) e (sym q))
+    go false e (inr j) ih = rw e (ih j)
+
+pub replaced-others : (v : Member) (x : ℕ) (ms : List Member) → (v .id ≡ x → ⊥) → named (replaced v ms) x ≡ named ms x
+replaced-others v x [] n = refl
+replaced-others v x (m ∷ ms) n = go (eqb (m .id) (v .id)) refl (replaced-others v x ms n)
+  where
+    go : (b : Bool) → eqb (m .id) (v .id) ≡ b → named (replaced v ms) x ≡ named ms x → named (if b then v ∷ ms else m ∷ replaced v ms) x ≡ named (m ∷ ms) x
+    go true e ih = let q = eqb-true (m .id) (v .id) e in rw (ne-eqb (v .id) x n, ne-eqb (m .id) x (λ d. n (sym q ∙ d)))
+    go false e ih = ap (λ (k : Member). if eqb (m .id) x then m else k) ih
+
 pub replaced-changed : (v : Member) (ms : List Member) → Changed ms v (replaced v ms)
 replaced-changed v ms = record { from = λ m i. replaced-from v m ms i; grows = λ x i. rw (replaced-ids v ms) i; counts = λ f. rw (replaced-ids v ms) (omega arith) }
 
@@ -114,6 +132,31 @@ inserted-grows v x (m ∷ ms) i = go (ltb (v .id) (m .id)) (inserted-grows v x m
     go : (b : Bool) → (In x (ids ms) → In x (ids (inserted v ms))) → In x (ids (if b then v ∷ m ∷ ms else m ∷ inserted v ms))
     go true ih = there i
     go false ih = ⊎-elim (λ e. here e) (λ k. there (ih k)) (in-cons i)
+
+pub inserted-in : (v : Member) (ms : List Member) → In (v .id) (ids (inserted v ms))
+inserted-in v [] = here refl
+inserted-in v (m ∷ ms) = go (ltb (v .id) (m .id)) (inserted-in v ms)
+  where
+    go : (b : Bool) → In (v .id) (ids (inserted v ms)) → In (v .id) (ids (if b then v ∷ m ∷ ms else m ∷ inserted v ms))
+    go true ih = here refl
+    go false ih = there ih
+
+-- it is found there, and all others as they were
+pub inserted-named : (v : Member) (ms : List Member) → (In (v .id) (ids ms) → ⊥) → named (inserted v ms) (v .id) ≡ v
+inserted-named v [] n = rw (eq-eqb (v .id) (v .id) refl)
+inserted-named v (m ∷ ms) n = go (ltb (v .id) (m .id)) (inserted-named v ms (λ i. n (there i)))
+  where
+    go : (b : Bool) → named (inserted v ms) (v .id) ≡ v → named (if b then v ∷ m ∷ ms else m ∷ inserted v ms) (v .id) ≡ v
+    go true ih = rw (eq-eqb (v .id) (v .id) refl)
+    go false ih = rw (ne-eqb (m .id) (v .id) (λ q. n (here (sym q)))) ih
+
+pub inserted-others : (v : Member) (x : ℕ) (ms : List Member) → (v .id ≡ x → ⊥) → named (inserted v ms) x ≡ named ms x
+inserted-others v x [] n = rw (ne-eqb (v .id) x n)
+inserted-others v x (m ∷ ms) n = go (ltb (v .id) (m .id)) (inserted-others v x ms n)
+  where
+    go : (b : Bool) → named (inserted v ms) x ≡ named ms x → named (if b then v ∷ m ∷ ms else m ∷ inserted v ms) x ≡ named (m ∷ ms) x
+    go true ih = rw (ne-eqb (v .id) x n)
+    go false ih = ap (λ (k : Member). if eqb (m .id) x then m else k) ih
 
 inserted-counts : (f : ℕ → Bool) (v : Member) (ms : List Member) → count f (ids ms) ≤ count f (ids (inserted v ms))
 inserted-counts f v [] = omega arith

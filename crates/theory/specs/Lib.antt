@@ -6,8 +6,10 @@ pub mod Orbit
 pub mod Static
 pub mod Keep
 pub mod Steps
+pub mod Left
 pub mod Runs
 pub mod Again
+pub mod Heads
 pub mod Losses
 pub mod New
 pub mod Lookup

@@ -1,8 +1,8 @@
 -- Each of the seven calls keeps a slice well-formed and sound, and so does every list of them.
-use mathlib.Core.Path.{_≡_, refl, sym, ap, _∙_}
+use mathlib.Core.Path.{_≡_, sym, ap, _∙_}
 use mathlib.Core.Bool.{true}
 use mathlib.Core.List.{List, [], _∷_}
-use Prim.Native.Nat.{ℕ, zero, suc, _+_, _*_, _≤_, _<_}
+use Prim.Native.Nat.{ℕ, suc, _+_, _*_, _≤_, _<_}
 use native.Mathlib.Omega.{arith}
 use lib.ListN.{length}
 use lib.Dec.{ltb}
@@ -11,13 +11,12 @@ use Rattle.model.specs.Lists.{every}
 use Rattle.model.specs.Identifier.{space}
 use Rattle.model.specs.Table.{Member, Table, headerSize, recordSize, size, tableOf, membersIn, wellFormed}
 use Rattle.model.specs.Ring.{named, sound}
-use Rattle.model.specs.Answer.{afterwards}
 use Rattle.model.specs.Steps.{joiner, joined, stabilize, stabilized, replaced, rectifyIn, rectified, without}
 use Rattle.model.specs.Refusals.{joinRefusal, memberRefusal, leaveRefusal}
 use Rattle.model.specs.Calls.{written, writtenFreed, joinWords, stabilizeWords, rectifyWords, failAnswer, failWords, leaveAnswer, leaveWords}
 use Rattle.model.specs.Run.{Call, Join, Leave, Fail, Stabilize, Rectify, Lookup, Audit, numbersOf, callAnswer, callWords, run, grantedCall, granted}
 use Rattle.laws.specs.Lists.{and-true, implied, length-ids, live-in}
-use Rattle.laws.specs.Accepted.{answer-number, join-accepted, member-accepted, MayLeave, leave-accepted, has-room}
+use Rattle.laws.specs.Accepted.{answer-number, afterwards-has, join-accepted, member-accepted, MayLeave, leave-accepted, has-room}
 use Rattle.laws.specs.Words.{written-table, writtenFreed-table}
 use Rattle.laws.specs.Tables.{wellFormed-facts, facts-wellFormed, sound-facts, facts-sound, formed-lists, written-formed, writtenFreed-formed}
 use Rattle.laws.specs.Removed.{removed-size}
@@ -42,10 +41,6 @@ written-good T ws k h = record { well-formed = facts-wellFormed (written T ws) (
 writtenFreed-good : (T : Table) (ws : List ℕ) → Kept space T → size T + recordSize (T .r) ≤ length ws → Good (writtenFreed T ws)
 writtenFreed-good T ws k h = record { well-formed = facts-wellFormed (writtenFreed T ws) (writtenFreed-formed T ws (k .formed) h); is-sound = ap sound (writtenFreed-table T ws (formed-lists space T (k .formed))) ∙ facts-sound T (k .is-sound) }
 
-afterwards-good : (k : ℕ) (new old : List ℕ) → (k ≡ 0 → Good new) → Good old → Good (afterwards k new old)
-afterwards-good zero new old h g = h refl
-afterwards-good (suc k) new old h g = g
-
 -- Sizes: the words that one member more, or one less, takes
 
 more-size : (r m n : ℕ) → m ≡ suc n → headerSize + m * recordSize r ≡ (headerSize + n * recordSize r) + recordSize r
@@ -62,7 +57,7 @@ module _ (ws : List ℕ) (g : Good ws) where
 
   join-good : (j p : ℕ) → j < space → Good (joinWords ws j p)
   unfolding joinWords
-  join-good j p hj = afterwards-good (joinRefusal ws j p) (written (joined j p (tableOf ws)) ws) ws go g
+  join-good j p hj = afterwards-has Good (joinRefusal ws j p) (written (joined j p (tableOf ws)) ws) ws go g
     where
       go : joinRefusal ws j p ≡ 0 → Good (written (joined j p (tableOf ws)) ws)
       go e =
@@ -73,19 +68,14 @@ module _ (ws : List ℕ) (g : Good ws) where
 
   pub stabilize-good : (n : ℕ) → Good (stabilizeWords ws n)
   unfolding stabilizeWords
-  stabilize-good n = afterwards-good (memberRefusal ws n) (written (stabilized space n (tableOf ws)) ws) ws go g
+  stabilize-good n = afterwards-has Good (memberRefusal ws n) (written (stabilized space n (tableOf ws)) ws) ws go g
     where
       go : memberRefusal ws n ≡ 0 → Good (written (stabilized space n (tableOf ws)) ws)
       go e = written-good (stabilized space n (tableOf ws)) ws (stabilized-kept space (tableOf ws) k n (member-accepted ws n e)) (replaced-size (stabilize space (membersIn ws) (named (membersIn ws) n)))
 
-  -- the table that an accepted step leaves
-  pub stabilize-table : (n : ℕ) → memberRefusal ws n ≡ 0 → tableOf (stabilizeWords ws n) ≡ stabilized space n (tableOf ws)
-  unfolding stabilizeWords
-  stabilize-table n e = rw e (written-table (stabilized space n (tableOf ws)) ws (formed-lists space _ (stabilized-kept space (tableOf ws) k n (member-accepted ws n e) .formed)))
-
   rectify-good : (n q : ℕ) → q < space → Good (rectifyWords ws n q)
   unfolding rectifyWords
-  rectify-good n q hq = afterwards-good (memberRefusal ws n) (written (rectified n q (tableOf ws)) ws) ws go g
+  rectify-good n q hq = afterwards-has Good (memberRefusal ws n) (written (rectified n q (tableOf ws)) ws) ws go g
     where
       go : memberRefusal ws n ≡ 0 → Good (written (rectified n q (tableOf ws)) ws)
       go e = written-good (rectified n q (tableOf ws)) ws (rectified-kept space (tableOf ws) k n q hq (member-accepted ws n e)) (replaced-size (rectifyIn (membersIn ws) q (named (membersIn ws) n)))
@@ -96,12 +86,12 @@ module _ (ws : List ℕ) (g : Good ws) where
 
   leave-good : (n : ℕ) → Good (leaveWords ws n)
   unfolding leaveWords
-  leave-good n = afterwards-good (leaveRefusal ws n) (writtenFreed (without n (tableOf ws)) ws) ws (λ e. without-good n (leave-accepted ws n e)) g
+  leave-good n = afterwards-has Good (leaveRefusal ws n) (writtenFreed (without n (tableOf ws)) ws) ws (λ e. without-good n (leave-accepted ws n e)) g
 
   -- a loss that a withdrawal would have been granted
   pub fail-good : (n : ℕ) → (memberRefusal ws n ≡ 0 → leaveRefusal ws n ≡ 0) → Good (failWords ws n)
   unfolding failWords
-  fail-good n grant = afterwards-good (memberRefusal ws n) (writtenFreed (without n (tableOf ws)) ws) ws (λ e. without-good n (leave-accepted ws n (grant e))) g
+  fail-good n grant = afterwards-has Good (memberRefusal ws n) (writtenFreed (without n (tableOf ws)) ws) ws (λ e. without-good n (leave-accepted ws n (grant e))) g
 
 -- the grant, said of the refusals
 granted-fail : (ws : List ℕ) (n : ℕ) → grantedCall ws (Fail n) ≡ true → memberRefusal ws n ≡ 0 → leaveRefusal ws n ≡ 0

@@ -23,7 +23,7 @@ use Rattle.theory.specs.Keep.{Kept, Fresh, changed-sound, changed-formed
 
 -- What adopting x makes of its list l: x, and then l without its last entry
 
-adopted-length : (x : ℕ) (l : List ℕ) → 1 ≤ length l → length (x ∷ withoutLast l) ≡ length l
+pub adopted-length : (x : ℕ) (l : List ℕ) → 1 ≤ length l → length (x ∷ withoutLast l) ≡ length l
 adopted-length x l h = simp length-take (omega arith)
 
 adopted-in : {e : ℕ} (x : ℕ) (l : List ℕ) → In e (x ∷ withoutLast l) → (e ≡ x) ⊎ In e l
@@ -31,7 +31,7 @@ adopted-in x l i = ⊎-elim inl (λ k. inr (in-take (length l - 1) l k)) (in-con
 
 -- What dropping a head makes of a list: the list without its first entry, and then z
 
-dropped-length : (z : ℕ) (l : List ℕ) → 1 ≤ length l → length (drop 1 l ++ (z ∷ [])) ≡ length l
+pub dropped-length : (z : ℕ) (l : List ℕ) → 1 ≤ length l → length (drop 1 l ++ (z ∷ [])) ≡ length l
 dropped-length z [] h = absurd (omega arith)
 dropped-length z (y ∷ l) h = rw length-append (omega arith)
 

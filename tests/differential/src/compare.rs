@@ -1,6 +1,8 @@
 //! One call on both sides, with the same buffers between the same guards.
 //! Answers and whole buffers, guards too, must be equal afterwards.
 
+mod alone;
+mod join;
 mod parts;
 mod principal;
 mod shapes;
@@ -8,6 +10,8 @@ mod shapes;
 use crate::calls::{Calls, REFERENCE};
 use crate::random::mix;
 use crate::reference::{Answer, Finding, Runs};
+use alone::Alone;
+use join::Joins;
 use parts::Parts;
 use principal::Principals;
 use std::fmt::Debug;
@@ -200,7 +204,7 @@ impl Reply for Runs {
 /// 20, held's one run and two as 20 and 21.
 const POSSIBLE: [&[usize]; CALLS] = [
     &[0, 10, 11],
-    &[0, 1, 2, 3, 4, 5],
+    &[0, 1, 2, 3, 4, 13, 5],
     &[0, 20, 21, 1, 3],
     &[0, 20, 1, 3],
     &[0, 1, 3],
@@ -224,6 +228,8 @@ pub struct Compare {
     numbers: [[u64; 22]; CALLS],
     parts: Parts,
     principals: Principals,
+    joins: Joins,
+    alone: Alone,
     /// Tells each call on standard error before it is made.
     pub trace: bool,
 }
@@ -245,6 +251,8 @@ impl Compare {
             numbers: [[0; 22]; CALLS],
             parts: Parts::new(),
             principals: Principals::new(),
+            joins: Joins::new(),
+            alone: Alone::new(),
             trace: false,
         }
     }
@@ -263,7 +271,9 @@ impl Compare {
             text += &format!("  {name}: {}\n", met.join(", "));
         }
         text += &format!("  parts: {}\n", self.parts.told());
-        text + &format!("  principal: {}\n", self.principals.told())
+        text += &format!("  principal: {}\n", self.principals.told());
+        text += &format!("  join: {}\n", self.joins.told());
+        text + &format!("  alone: {}\n", self.alone.told())
     }
 
     /// A call with a number that it can give but never gave, or a shape that
@@ -276,8 +286,13 @@ impl Compare {
                 }
             }
         }
-        let parts = self.parts.never_met().map(|shape| format!("parts with {shape}"));
-        parts.or(self.principals.never_met().map(|shape| format!("principal with {shape}")))
+        let shapes = [
+            ("parts with", self.parts.never_met()),
+            ("principal with", self.principals.never_met()),
+            ("join:", self.joins.never_met()),
+            ("alone:", self.alone.never_met()),
+        ];
+        shapes.iter().find_map(|(what, shape)| shape.map(|shape| format!("{what} {shape}")))
     }
 
     /// Sorts an answer by its number, and a few by their reply too.
@@ -375,10 +390,6 @@ impl Compare {
         ids: &Piece<u32>,
     ) -> Result<Outcome<u32, u32>> {
         self.on_table("new", &[r as u64], table, ids, |c, t, ids| (c.new)(t, r, ids))
-    }
-
-    pub fn join(&mut self, table: &Piece<u32>, j: u32, p: u32) -> Result<Outcome<u32, u32>> {
-        self.on_table("join", &[j as u64, p as u64], table, &nothing(), |c, t, _| (c.join)(t, j, p))
     }
 
     pub fn stabilize(&mut self, table: &Piece<u32>, n: u32) -> Result<Outcome<u32, u32>> {

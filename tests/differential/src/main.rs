@@ -8,8 +8,8 @@
 use differential::calls::{LIBRARY, SECOND};
 use differential::compare::{under_way, Compare, NAMES};
 use differential::ffi;
-use differential::rounds::round;
-use differential::second::{plant, Fault, FAULTS};
+use differential::rounds::{alone, round};
+use differential::second::{plant, Fault, ALONE, FAULTS};
 use std::process::ExitCode;
 use std::sync::atomic::{AtomicU64, Ordering};
 use std::time::Instant;
@@ -84,12 +84,14 @@ fn differential(numbers: std::ops::Range<u64>, seed: u64, trace: bool) -> ExitCo
     ExitCode::SUCCESS
 }
 
+type Round = fn(&mut Compare, u64, u64) -> Result<(), String>;
+
 /// The rounds until a difference shows: the comparisons made, and the first
 /// line of what is told.
-fn until_found(rounds: u64) -> Option<(u64, String)> {
+fn until_found(run: Round) -> Option<(u64, String)> {
     let mut compare = Compare::new(&SECOND);
-    for number in 0..rounds {
-        if let Err(text) = round(&mut compare, SEED, number) {
+    for number in 0..SELF_TEST_ROUNDS {
+        if let Err(text) = run(&mut compare, SEED, number) {
             let line = text.lines().next().unwrap_or("").to_string();
             return Some((compare.total(), line));
         }
@@ -97,34 +99,52 @@ fn until_found(rounds: u64) -> Option<(u64, String)> {
     None
 }
 
+/// Plants a fault; says whether the rounds find it.
+fn finds(fault: Fault, run: Round, told: &str) -> bool {
+    let name = FAULTS.iter().find(|known| known.0 == fault).map_or("", |known| known.1);
+    plant(fault);
+    let found = until_found(run);
+    plant(Fault::None);
+    match found {
+        Some((count, line)) if line.starts_with("DIFFERENCE") => {
+            let at = if count > 0 { format!("comparison {count}, ") } else { String::new() };
+            println!("{told}: {name} ({at}{})", &line[14..]);
+            true
+        }
+        Some((_, line)) => {
+            println!("NOT FOUND: {name} ({line})");
+            false
+        }
+        None => {
+            println!("NOT FOUND: {name}");
+            false
+        }
+    }
+}
+
 fn self_test() -> ExitCode {
     let mut sound = true;
     plant(Fault::None);
-    match until_found(SELF_TEST_ROUNDS) {
-        None => println!("no fault: nothing found"),
-        Some((_, line)) => {
-            println!("no fault, yet: {line}");
-            sound = false;
-        }
-    }
-    for &(fault, name) in FAULTS {
-        plant(fault);
-        match until_found(SELF_TEST_ROUNDS) {
-            Some((count, line)) if line.starts_with("DIFFERENCE") => {
-                println!("found: {name} (comparison {count}, {})", &line[14..]);
-            }
+    for run in [round as Round, alone] {
+        match until_found(run) {
+            None => println!("no fault: nothing found"),
             Some((_, line)) => {
-                println!("NOT FOUND: {name} ({line})");
-                sound = false;
-            }
-            None => {
-                println!("NOT FOUND: {name}");
+                println!("no fault, yet: {line}");
                 sound = false;
             }
         }
     }
-    plant(Fault::None);
-    println!("{} faults planted", FAULTS.len());
+    for &(fault, _) in FAULTS {
+        sound &= finds(fault, round, "found");
+    }
+    for &fault in ALONE {
+        sound &= finds(fault, alone, "found without the reference");
+    }
+    println!(
+        "{} faults planted, {} of them found without the reference too",
+        FAULTS.len(),
+        ALONE.len()
+    );
     if sound {
         ExitCode::SUCCESS
     } else {

@@ -3,10 +3,12 @@
 
 mod held;
 mod images;
+mod join;
 mod principal;
 
 use held::{held, held_calls};
 use images::{image, read_image};
+use join::join;
 use principal::principal;
 
 use crate::compare::{Compare, Element, Piece};
@@ -19,7 +21,7 @@ type Result = std::result::Result<(), String>;
 type Round = fn(&mut Compare, &mut Random) -> Result;
 
 /// The kinds of rounds in turn.
-const KINDS: [(&str, Round); 17] = [
+const KINDS: [(&str, Round); 18] = [
     ("tiny", tiny),
     ("sound churn", sound_churn),
     ("broken", broken),
@@ -37,6 +39,7 @@ const KINDS: [(&str, Round); 17] = [
     ("broken", broken),
     ("held", held),
     ("principal", principal),
+    ("join", join),
 ];
 
 /// Runs one round; the error tells what differs and how to see it again.
@@ -49,6 +52,11 @@ pub fn round(compare: &mut Compare, seed: u64, number: u64) -> Result {
     };
     run(compare, &mut random)
         .map_err(|text| format!("{text}  round {number} ({kind}), seed {seed}\n"))
+}
+
+/// A run of the library alone, in which no call is compared.
+pub fn alone(compare: &mut Compare, seed: u64, number: u64) -> Result {
+    compare.alone(&mut Random::new(mix(seed).wrapping_add(mix(number))))
 }
 
 /// Lengths near the needed one.

@@ -5,11 +5,13 @@
 mod calls;
 mod held;
 mod image;
+mod join;
 mod principal;
 
 pub use calls::*;
 pub use held::*;
 pub use image::*;
+pub use join::*;
 pub use principal::*;
 
 use crate::reference::{Answer, Finding, Runs};
@@ -40,6 +42,7 @@ faults! {
     StepNotCounted: "stabilize does not count the step",
     StepWraps: "step count goes from 4294967295 to 0",
     AgainNotCounted: "a step that replies again is not counted",
+    AgainLive: "again said of a live head, the highest member",
     AfterWraps: "the identifier after 4294967295 is 4294967295",
     FreedNotZeroed: "freed words not zeroed",
     FreedOneTooMany: "word after the freed ones zeroed",
@@ -60,6 +63,34 @@ faults! {
     JoinThreeFirst: "3 given where 2 applies too",
     JoinRoom: "join asks for one word more than a record",
     JoinMost: "join refused at 255 members",
+    JoinHeadless: "join takes p's list without its first entry",
+    DeadNever: "13 never given, as if judged of p itself",
+    DeadJoiner: "13 judged of j, which is no member",
+    DeadNot: "13 given for a live first entry, and for no dead one",
+    DeadLast: "13 judged of p's last entry",
+    DeadAny: "13 given for any dead entry of p",
+    DeadAll: "13 given only where no entry of p is live",
+    DeadPredecessor: "13 judged of p's predecessor",
+    DeadCandidate: "13 judged of p's candidate while a step is pending",
+    DeadNext: "13 given where the first entry is not the next member up",
+    DeadOwn: "13 given where p is its own first entry",
+    DeadAbove: "members below p not seen by 13",
+    DeadBelow: "members above p not seen by 13",
+    DeadLowest: "the lowest member not seen by 13",
+    DeadHighest: "the highest member not seen by 13",
+    DeadPlace: "an entry with a member above it taken as live by 13",
+    DeadPast: "word after the last record seen as a member by 13",
+    DeadBeforeTwo: "13 given where 2 applies too",
+    DeadBeforeFour: "13 given where 4 applies too",
+    FullBeforeDead: "5 given for 256 members where 13 applies too",
+    ShortBeforeDead: "5 given for too few words where 13 applies too",
+    DeadFour: "4 given in place of 13",
+    DeadNamed: "13 with the dead entry as a value",
+    DeadCounts: "a join declined by 13 adds to the member count",
+    DeadSteps: "a join declined by 13 counts a step",
+    DeadDrops: "a join declined by 13 drops the dead entry",
+    DeadMoves: "a join declined by 13 has moved the records up",
+    DeadSkipped: "in place of 13 the joiner's list starts at p's first live entry",
     FindWrongEight: "8 names the start",
     FindFirstEntry: "find goes by the first entry, dead or alive",
     FindLastMove: "find counts the step to the owner",
@@ -148,6 +179,27 @@ faults! {
     RefusalValue: "a refusal with a value",
     CountPadded: "unused values counted",
 }
+
+/// Those that the runs of the library alone must find.
+pub const ALONE: &[Fault] = &[
+    Fault::AdoptUnseen,
+    Fault::AgainLive,
+    Fault::HeadAppended,
+    Fault::PastSlice,
+    Fault::JoinHeadless,
+    Fault::DeadNever,
+    Fault::DeadJoiner,
+    Fault::DeadNot,
+    Fault::DeadLast,
+    Fault::DeadAny,
+    Fault::DeadAll,
+    Fault::DeadPlace,
+    Fault::DeadCounts,
+    Fault::DeadSteps,
+    Fault::DeadDrops,
+    Fault::DeadMoves,
+    Fault::DeadSkipped,
+];
 
 thread_local! {
     static PLANTED: Cell<Fault> = const { Cell::new(Fault::None) };

@@ -44,13 +44,33 @@ stands c = let w = well (past c) in let a = entry w .args in here (a .t .now) (a
 abbrev by : tie.After-between → tie.After-k
 by c = c .before .before .before .before
 
-asked : (c : tie.After-between) → let a = entry (well (past (by c))) .args in c .between .result ≡ between (a .p) (a .j) (successor (named (membersIn (a .t .now)) (a .p)))
-asked c =
+-- the first entry of p
+first : (c : tie.After-between) → let a = entry (well (past (by c))) .args in getD (c .before .before .member-at .result .successors) 0 0 ≡ successor (named (membersIn (a .t .now)) (a .p))
+first c =
     let m = c .before .before in
     let k = by c in
     let w = well (past k) in
     let a = entry w .args in
-    c .between .ensures ∙ ap (between (a .p) (a .j)) (sym (getD-take (getD (a .t .now) 0 0) (m .member-at .result .successors) 0 0 (table w .r-low)) ∙ ap successor (m .member-at .ensures ∙ stands-named (table w) (stands k)))
+    sym (getD-take (getD (a .t .now) 0 0) (m .member-at .result .successors) 0 0 (table w .r-low)) ∙ ap successor (m .member-at .ensures ∙ stands-named (table w) (stands k))
+
+asked : (c : tie.After-between) → let a = entry (well (past (by c))) .args in c .between .result ≡ between (a .p) (a .j) (successor (named (membersIn (a .t .now)) (a .p)))
+asked c = let a = entry (well (past (by c))) .args in c .between .ensures ∙ ap (between (a .p) (a .j)) (first c)
+
+abbrev inside : tie.After-find3 → tie.After-between
+inside c = c .before .before
+
+-- its first entry is a member, or is none
+first-live : (c : tie.After-enum-told3) → let a = entry (well (past (by (inside (c .before .before))))) .args in live (membersIn (a .t .now)) (successor (named (membersIn (a .t .now)) (a .p))) ≡ true
+first-live c =
+    let f = c .before .before in
+    let a = entry (well (past (by (inside f)))) .args in
+    ap (live (membersIn (a .t .now))) (sym (first (inside f))) ∙ present (a .t .now) _ _ (sym (c .enum-told3 .given .1) ∙ f .find3 .ensures) .0
+
+first-dead : (c : tie.After-enum-told4) → let a = entry (well (past (by (inside (c .before .before))))) .args in live (membersIn (a .t .now)) (successor (named (membersIn (a .t .now)) (a .p))) ≡ false
+first-dead c =
+    let f = c .before .before in
+    let a = entry (well (past (by (inside f)))) .args in
+    ap (live (membersIn (a .t .now))) (sym (first (inside f))) ∙ missing (a .t .now) _ _ (sym (c .enum-told4 .given .1) ∙ f .find3 .ensures) .0
 
 find-requires : tie.Need-find-requires
 find-requires c κs = table c
@@ -61,8 +81,11 @@ find-requires-2 c κs = table (well (c .before))
 member-at-requires : tie.Need-member-at-requires
 member-at-requires c κs = let k = c .before in (table (well (past k)), stands k .within)
 
+find-requires-3 : tie.Need-find-requires-3
+find-requires-3 c κs = table (well (past (by (c .before))))
+
 is-full-requires : tie.Need-is-full-requires
-is-full-requires c κs = table (well (past (by (c .before))))
+is-full-requires c κs = table (well (past (by (inside (c .before .before)))))
 
 returns : tie.Need-returns
 unfolding joinRefusal
@@ -82,27 +105,36 @@ returns-2 c =
 returns-3 : tie.Need-returns-3
 unfolding joinRefusal
 returns-3 c =
-    let b = c .before .before in
+    let b = c .before .before .before in
     let k = by (b .before) in
-    rw (good (well (past k)), fresh (past k) .0, alive k .0, sym (asked (b .before)) ∙ b .if2 .taken, sym (c .before .is-full .ensures) ∙ c .if3 .taken)
+    rw (good (well (past k)), fresh (past k) .0, alive k .0, sym (asked (b .before)) ∙ b .if2 .taken, first-dead c)
 
 returns-4 : tie.Need-returns-4
 unfolding joinRefusal
 returns-4 c =
-    let b = c .before .before in
+    let e = c .before .before in
+    let b = e .before .before .before in
     let k = by (b .before) in
-    rw (good (well (past k)), fresh (past k) .0, alive k .0, sym (asked (b .before)) ∙ b .if2 .taken, sym (c .before .is-full .ensures) ∙ c .if3 .left, ← fresh (past k) .1, ← alive k .1)
+    rw (good (well (past k)), fresh (past k) .0, alive k .0, sym (asked (b .before)) ∙ b .if2 .taken, first-live e, sym (c .before .is-full .ensures) ∙ c .if3 .taken)
 
 returns-5 : tie.Need-returns-5
 unfolding joinRefusal
 returns-5 c =
-    let k = by (c .before) in
-    rw (good (well (past k)), fresh (past k) .0, alive k .0, sym (asked (c .before)) ∙ c .if2 .left)
+    let e = c .before .before in
+    let b = e .before .before .before in
+    let k = by (b .before) in
+    rw (good (well (past k)), fresh (past k) .0, alive k .0, sym (asked (b .before)) ∙ b .if2 .taken, first-live e, sym (c .before .is-full .ensures) ∙ c .if3 .left, ← fresh (past k) .1, ← alive k .1)
 
 returns-6 : tie.Need-returns-6
 unfolding joinRefusal
-returns-6 c = rw (sym (c .before .well-formed .ensures) ∙ c .if1 .left)
+returns-6 c =
+    let k = by (c .before) in
+    rw (good (well (past k)), fresh (past k) .0, alive k .0, sym (asked (c .before)) ∙ c .if2 .left)
+
+returns-7 : tie.Need-returns-7
+unfolding joinRefusal
+returns-7 c = rw (sym (c .before .well-formed .ensures) ∙ c .if1 .left)
 
 pub judged-spec : {M : Type 1} → statement M
 judged-spec =
-    tie.close (tie.spec (λ c κs. search needs) find-requires (λ c. search needs) (λ c. search needs) returns find-requires-2 (λ c. search needs) (λ c. search needs) returns-2 member-at-requires (λ c. search needs) (λ c κs. search needs) is-full-requires returns-3 returns-4 returns-5 returns-6)
+    tie.close (tie.spec (λ c κs. search needs) find-requires (λ c. search needs) (λ c. search needs) returns find-requires-2 (λ c. search needs) (λ c. search needs) returns-2 member-at-requires (λ c. search needs) (λ c κs. search needs) find-requires-3 (λ c. search needs) (λ c. search needs) returns-3 is-full-requires returns-4 returns-5 returns-6 returns-7)

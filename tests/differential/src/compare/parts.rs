@@ -67,11 +67,12 @@ fn mark(words: &[u32]) -> u64 {
 }
 
 impl Compare {
-    /// What `ask_parts` has done, for the report.
+    /// What was done beside the comparisons, for the report.
     pub fn parts(&self) -> String {
         format!(
-            "keys parted on {} tables, {} owners found; principals counted on {} tables",
-            self.parts.tables, self.parts.finds, self.principals.tables
+            "keys parted on {} tables, {} owners found; principals counted on {} tables; \
+             {} runs of the library alone",
+            self.parts.tables, self.parts.finds, self.principals.tables, self.alone.runs
         )
     }
 

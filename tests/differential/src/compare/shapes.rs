@@ -17,6 +17,12 @@ impl<const COUNT: usize> Shapes<COUNT> {
         }
     }
 
+    /// Counts the one of this name.
+    pub fn meet(&mut self, name: &str) {
+        let at = self.names.iter().position(|&known| known == name).expect("a known shape");
+        self.met[at] += 1;
+    }
+
     pub fn never_met(&self) -> Option<&'static str> {
         self.names.iter().zip(self.met).find(|&(_, met)| met == 0).map(|(&name, _)| name)
     }

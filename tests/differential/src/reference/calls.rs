@@ -38,6 +38,10 @@ pub fn join(table: &mut [u32], j: u32, p: u32) -> Answer {
     if !between(p, j, by.first_entry()) {
         return decline(4);
     }
+    // "A join is now declined if p's first entry is no member."
+    if !t.is_live(by.first_entry()) {
+        return decline(13);
+    }
     if t.members.len() == MOST || table.len() - t.length() < t.width() {
         return decline(5);
     }
@@ -222,6 +226,11 @@ pub fn holder(members: &[u32], key: u32) -> u32 {
     members.iter().copied().find(|&id| id >= key).unwrap_or(members[0])
 }
 
+/// Is the verdict 1 or 2?
+pub fn is_sound(table: &[u32]) -> bool {
+    Table::decode(table).is_some_and(|t| t.is_sound())
+}
+
 /// Is the verdict 2?
 pub fn is_sound_and_ideal(table: &[u32]) -> bool {
     Table::decode(table).is_some_and(|t| t.is_ideal() && t.is_sound())
@@ -322,5 +331,60 @@ pub fn image_field(image: &[u8], position: usize) -> Answer {
         Some(field) => {
             accept(&[tag as u32, field.contents as u32, length as u32, field.next as u32])
         }
+    }
+}
+
+#[cfg(test)]
+mod joins {
+    use super::*;
+
+    /// The answer to a join, and whether the table stayed as it was.
+    fn tried(table: &[u32], j: u32, p: u32) -> (Answer, bool) {
+        let mut after = table.to_vec();
+        let given = join(&mut after, j, p);
+        (given, after == table)
+    }
+
+    #[test]
+    fn behind_a_dead_neighbour() {
+        let mut table = [9; 33];
+        new(&mut table, 2, &[10, 20, 30, 40, 50]);
+        fail(&mut table, 20);
+        let declined = |number| (decline(number), true);
+        assert_eq!(tried(&table, 15, 10), declined(13));
+        assert_eq!(tried(&table, 15, 40), declined(4));
+        // 2, 3 and 4 come first: 25 is past the dead 20.
+        assert_eq!(tried(&table, 30, 10), declined(2));
+        assert_eq!(tried(&table, 15, 20), declined(3));
+        assert_eq!(tried(&table, 25, 10), declined(4));
+        // 5 comes after it: one word fewer than a record takes.
+        assert_eq!(tried(&table[..32], 15, 10), declined(13));
+        assert_eq!(tried(&table[..32], 35, 30), declined(5));
+        assert_eq!(tried(&table[..26], 15, 10), declined(1));
+        // Only 10 stands before the dead one.
+        assert_eq!(tried(&table, 35, 30), (accept(&[5]), false));
+        // One step clears it.
+        assert_eq!(stabilize(&mut table, 10), accept(&[0]));
+        assert_eq!(join(&mut table, 15, 10), accept(&[5]));
+        assert_eq!(table[9..15], [15, 10, 0, 0, 30, 31]);
+        // The new member clears no dead entry: it looks at the lost 20, and is done.
+        assert_eq!(stabilize(&mut table, 15), accept(&[1, 20]));
+        assert_eq!(stabilize(&mut table, 15), accept(&[2, 30]));
+    }
+
+    #[test]
+    fn full_table() {
+        let ids: Vec<u32> = (0..256).map(|i| 4 * i).collect();
+        let mut table = vec![0; 3 + 257 * 12];
+        new(&mut table, 8, &ids);
+        assert_eq!(tried(&table, 1, 0), (decline(5), true));
+        table[7] = 2;
+        assert_eq!(tried(&table, 1, 0), (decline(13), true));
+        assert_eq!(tried(&table, 3, 0), (decline(4), true));
+        assert_eq!(tried(&table, 5, 4), (decline(5), true));
+        // The last member's first entry is the lowest, round the end.
+        assert_eq!(tried(&table, 1021, 1020), (decline(5), true));
+        table[3 + 255 * 12 + 4] = u32::MAX;
+        assert_eq!(tried(&table, 1021, 1020), (decline(13), true));
     }
 }

@@ -35,57 +35,6 @@ pub fn new(table: &mut [u32], r: u32, ids: &[u32]) -> Answer {
     yes([n as u32])
 }
 
-pub fn join(table: &mut [u32], j: u32, p: u32) -> Answer {
-    if !formed(table) {
-        return no(1);
-    }
-    let by = find(table, p);
-    if planted(Fault::JoinThreeFirst) && by.is_none() {
-        return no(3);
-    }
-    if find(table, j).is_some() {
-        return no(2);
-    }
-    let Some(by) = by else {
-        return no(3);
-    };
-    let w = width(table);
-    let most = if planted(Fault::JoinMost) { 255 } else { 256 };
-    let room = table.len() - end(table);
-    let needed = if planted(Fault::JoinRoom) { w + 1 } else { w };
-    let full = size(table) >= most || room < needed;
-    if planted(Fault::JoinFourLate) && full {
-        return no(5);
-    }
-    if !between(p, j, list(table, by)[0]) {
-        return no(4);
-    }
-    if full {
-        return no(5);
-    }
-    let record = table[offset(table, by)..offset(table, by + 1)].to_vec();
-    let mut at = size(table);
-    while at > 0 && id(table, at - 1) > j {
-        at -= 1;
-    }
-    let (from, to) = (offset(table, at), end(table));
-    table.copy_within(from..to, from + w);
-    table[from] = j;
-    table[from + 1] = if planted(Fault::JoinPredecessor) { record[1] } else { p };
-    table[from + 2] = 0;
-    table[from + 3] = 0;
-    if planted(Fault::JoinPending) {
-        table[from + 2..from + 4].copy_from_slice(&record[2..4]);
-    }
-    table[from + 4..from + w].copy_from_slice(&record[4..]);
-    table[1] += 1;
-    if planted(Fault::WordAfterTable) && end(table) < table.len() {
-        let o = end(table);
-        table[o] = 0;
-    }
-    yes([table[1]])
-}
-
 /// Puts h in front of the list at `to`, with the list at `from` after it.
 fn take(table: &mut [u32], to: usize, from: usize) {
     let h = id(table, from);
@@ -109,6 +58,10 @@ pub fn stabilize(table: &mut [u32], n: u32) -> Answer {
     let o = offset(table, i);
     let (first, last) = (o + 4, o + width(table) - 1);
     let h = table[first];
+    let mut head = find(table, h);
+    if planted(Fault::AgainLive) && head == Some(size(table) - 1) {
+        head = None;
+    }
     let answer;
     if table[o + 2] == 1 {
         let c = table[o + 3];
@@ -128,7 +81,7 @@ pub fn stabilize(table: &mut [u32], n: u32) -> Answer {
             }
         }
         answer = yes([2, named]);
-    } else if let Some(place) = find(table, h) {
+    } else if let Some(place) = head {
         let c = table[offset(table, place) + 1];
         take(table, i, place);
         if between(n, c, h) {

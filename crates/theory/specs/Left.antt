@@ -1,0 +1,100 @@
+-- The table that an accepted join, stabilize or rectify step leaves in a slice, sound or not: each list keeps its r entries, so what was written is read.
+use mathlib.Core.Path.{_≡_, refl, ap, _∙_}
+use mathlib.Core.Logic.{_⊎_, inl, inr}
+use mathlib.Core.Bool.{Bool, true, false}
+use mathlib.Core.List.{List}
+use Prim.Native.Nat.{ℕ, _≤_}
+use native.Mathlib.Omega.{arith}
+use lib.ListN.{length}
+use Rattle.model.specs.Lists.{if_then_else_, lastOf}
+use Rattle.model.specs.Identifier.{space, after}
+use Rattle.model.specs.Table.{Member, tableOf, membersIn, wellFormed}
+use Rattle.model.specs.Ring.{live, named, successor, isPending}
+use Rattle.model.specs.Steps.{withPredecessor, joiner, joined, dropHead, adopt, awaitCandidate, clearPending, offered, isBetter, stabilizeFromSuccessor, stabilizeFromPredecessor, stabilize, stabilized, renews, rectifyIn, rectified}
+use Rattle.model.specs.Refusals.{joinRefusal, memberRefusal}
+use Rattle.model.specs.Calls.{written, stabilizeWords}
+use Rattle.laws.specs.Lists.{In, found, live-in}
+use Rattle.laws.specs.Accepted.{join-accepted, member-table, member-accepted}
+use Rattle.laws.specs.Words.{Lengths, written-table}
+use Rattle.laws.specs.Tables.{wellFormed-facts, formed-lists}
+use Rattle.theory.specs.Keep.{Changed, replaced-changed, inserted-changed}
+use Rattle.theory.specs.Steps.{adopted-length, dropped-length}
+
+-- the old members and at most one record with a list of r entries
+changed-lists : (r : ℕ) (ms ns : List Member) (v : Member) → Lengths r ms → length (v .successors) ≡ r → Changed ms v ns → Lengths r ns
+changed-lists r ms ns v lists e c m i = go (c .from m i)
+  where
+    go : (m ≡ v) ⊎ In m ms → length (m .successors) ≡ r
+    go (inl q) = ap (λ (k : Member). length (k .successors)) q ∙ e
+    go (inr j) = lists m j
+
+module _ (r : ℕ) (ms : List Member) (lists : Lengths r ms) (low : 1 ≤ r) where
+  -- the list of a member, whoever it is
+  listed : (x : ℕ) → live ms x ≡ true → length (named ms x .successors) ≡ r
+  listed x l = lists (named ms x) (found ms (live-in ms x l) .0)
+
+  adopted : (x : ℕ) (m : Member) → live ms x ≡ true → length (adopt x (named ms x .successors) m .successors) ≡ r
+  adopted x m l = adopted-length x (named ms x .successors) (omega (arith, listed x l)) ∙ listed x l
+
+  stabilize-list : (w : ℕ) (m : Member) → In m ms → length (stabilize w ms m .successors) ≡ r
+  unfolding stabilize stabilizeFromSuccessor stabilizeFromPredecessor
+  stabilize-list w m i = go (isPending m) (live ms (m .candidate)) refl (live ms (successor m)) refl (isBetter ms m)
+    where
+      go : (a b : Bool) → live ms (m .candidate) ≡ b → (c : Bool) → live ms (successor m) ≡ c → (d : Bool) →
+          length ((if a then clearPending (if b then adopt (m .candidate) (named ms (m .candidate) .successors) m else m)
+          else if c then (if d then awaitCandidate (offered ms m) (adopt (successor m) (named ms (successor m) .successors) m) else adopt (successor m) (named ms (successor m) .successors) m)
+          else dropHead w m) .successors) ≡ r
+      go true true eb c ec d = adopted (m .candidate) m eb
+      go true false eb c ec d = lists m i
+      go false b eb true ec true = adopted (successor m) m ec
+      go false b eb true ec false = adopted (successor m) m ec
+      go false b eb false ec d = dropped-length (after w (lastOf (m .successors))) (m .successors) (omega (arith, lists m i)) ∙ lists m i
+
+  rectify-list : (q : ℕ) (m : Member) → In m ms → length (rectifyIn ms q m .successors) ≡ r
+  rectify-list q m i = go (renews (live ms (m .predecessor)) q m)
+    where
+      go : (b : Bool) → length ((if b then withPredecessor q m else m) .successors) ≡ r
+      go true = lists m i
+      go false = lists m i
+
+module _ (ws : List ℕ) where
+  -- lists of a well-formed table
+
+  lists-in : wellFormed ws ≡ true → Lengths (tableOf ws .r) (membersIn ws)
+  lists-in h = formed-lists space (tableOf ws) (wellFormed-facts ws h .table)
+
+  low-in : wellFormed ws ≡ true → 1 ≤ tableOf ws .r
+  low-in h = wellFormed-facts ws h .table .r-low
+
+  -- the new lists, where the call is accepted
+
+  pub joiner-listed : (j p : ℕ) → joinRefusal ws j p ≡ 0 → length (joiner (membersIn ws) j p .successors) ≡ tableOf ws .r
+  joiner-listed j p e = let a = join-accepted ws j p e in listed (tableOf ws .r) (membersIn ws) (lists-in (a .table)) (low-in (a .table)) p (a .by)
+
+  pub stabilize-listed : (n : ℕ) → memberRefusal ws n ≡ 0 → length (stabilize space (membersIn ws) (named (membersIn ws) n) .successors) ≡ tableOf ws .r
+  stabilize-listed n e = let h = member-table ws n e in stabilize-list (tableOf ws .r) (membersIn ws) (lists-in h) (low-in h) space (named (membersIn ws) n) (found (membersIn ws) (live-in (membersIn ws) n (member-accepted ws n e)) .0)
+
+  pub rectify-listed : (n q : ℕ) → memberRefusal ws n ≡ 0 → length (rectifyIn (membersIn ws) q (named (membersIn ws) n) .successors) ≡ tableOf ws .r
+  rectify-listed n q e = let h = member-table ws n e in rectify-list (tableOf ws .r) (membersIn ws) (lists-in h) (low-in h) q (named (membersIn ws) n) (found (membersIn ws) (live-in (membersIn ws) n (member-accepted ws n e)) .0)
+
+  -- the table that is written is the one that is read
+
+  pub joined-read : (j p : ℕ) → joinRefusal ws j p ≡ 0 → tableOf (written (joined j p (tableOf ws)) ws) ≡ joined j p (tableOf ws)
+  joined-read j p e =
+      let v = joiner (membersIn ws) j p in
+      written-table (joined j p (tableOf ws)) ws (changed-lists (tableOf ws .r) (membersIn ws) _ v (lists-in (join-accepted ws j p e .table)) (joiner-listed j p e) (inserted-changed v (membersIn ws)))
+
+  pub stabilized-read : (n : ℕ) → memberRefusal ws n ≡ 0 → tableOf (written (stabilized space n (tableOf ws)) ws) ≡ stabilized space n (tableOf ws)
+  stabilized-read n e =
+      let v = stabilize space (membersIn ws) (named (membersIn ws) n) in
+      written-table (stabilized space n (tableOf ws)) ws (changed-lists (tableOf ws .r) (membersIn ws) _ v (lists-in (member-table ws n e)) (stabilize-listed n e) (replaced-changed v (membersIn ws)))
+
+  pub rectified-read : (n q : ℕ) → memberRefusal ws n ≡ 0 → tableOf (written (rectified n q (tableOf ws)) ws) ≡ rectified n q (tableOf ws)
+  rectified-read n q e =
+      let v = rectifyIn (membersIn ws) q (named (membersIn ws) n) in
+      written-table (rectified n q (tableOf ws)) ws (changed-lists (tableOf ws .r) (membersIn ws) _ v (lists-in (member-table ws n e)) (rectify-listed n q e) (replaced-changed v (membersIn ws)))
+
+  -- the table after an accepted stabilize step
+  pub stabilize-table : (n : ℕ) → memberRefusal ws n ≡ 0 → tableOf (stabilizeWords ws n) ≡ stabilized space n (tableOf ws)
+  unfolding stabilizeWords
+  stabilize-table n e = rw e (stabilized-read n e)
