@@ -102,8 +102,9 @@ struct ring_runs {
 struct ring_answer ring_new(uint32_t *table, size_t words, uint32_t r, const uint32_t *ids, size_t count);
 
 /* j becomes a member by p: predecessor p, p's list, nothing pending. The records above j move up. values: member count afterwards.
-   1, 2, 3, 4, 13, 5. Where 13 declines it, stabilize p until its first entry is a member, then join again; or join by another member. So
-   the first entry of a new member is a member, and none of its stabilize steps replies "again" while no member goes. */
+   1, 2, 3, 4, 13, 5. Where 13 declines it, stabilize p until its first entry is a member, on a sound table at most r steps in a row,
+   then join again; or join by another member. So the first entry of a new member is a member, and none of its stabilize steps replies "again"
+   while no member goes. */
 struct ring_answer ring_join(uint32_t *table, size_t words, uint32_t j, uint32_t p);
 
 /* One stabilize step of n, which adds 1 to the step count (up to 4294967295).

@@ -1,5 +1,5 @@
 -- The stabilize steps of one member of a sound table, with no other call between them: "again" at most r - 1 times, then "look" at most once,
--- then "done". So r + 1 steps are enough.
+-- then "done". So r + 1 steps are enough; and after at most r of them its first entry is a member.
 use mathlib.Core.Path.{_≡_, refl, sym, ap, subst, _∙_}
 use mathlib.Core.Logic.{_⊎_, inl, inr}
 use mathlib.Core.Bool.{Bool, true, false, true≢false}
@@ -7,19 +7,19 @@ use mathlib.Core.List.{List, [], _∷_, _++_}
 use Prim.Native.Nat.{ℕ, zero, suc, _-_, _≤_, _<_}
 use native.Mathlib.Omega.{arith}
 use lib.ListN.{length, getD, replicate, drop, length-append, List·getD-append}
-use Rattle.model.specs.Lists.{any, contains}
+use Rattle.model.specs.Lists.{if_then_else_, any, contains}
 use Rattle.model.specs.Identifier.{space}
 use Rattle.model.specs.Table.{Member, Table, ids, tableOf, membersIn, wellFormed}
 use Rattle.model.specs.Ring.{live, named, successor, isPending, sound}
 use Rattle.model.specs.Answer.{accepted}
-use Rattle.model.specs.Steps.{isBetter, stabilize, stabilizeReply, replaced}
+use Rattle.model.specs.Steps.{adopt, clearPending, isBetter, stabilizeFromPredecessor, stabilize, stabilizeReply, replaced}
 use Rattle.model.specs.Refusals.{memberRefusal}
 use Rattle.model.specs.Calls.{stabilizeAnswer, stabilizeWords}
 use Rattle.model.specs.Run.{Stabilize, callWords, run}
 use Rattle.laws.specs.Lists.{In, found, live-in, or-true}
 use Rattle.laws.specs.Accepted.{member-accepts}
 use Rattle.laws.specs.Tables.{wellFormed-facts, sound-facts}
-use Rattle.laws.specs.Stabilize.{done-pending, again, reply-look, reply-done, offered-better, step-live, step-dead, same-id}
+use Rattle.laws.specs.Stabilize.{done-pending, again, reply-look, reply-done, offered-better, step-pending, step-live, step-dead, same-id}
 use Rattle.theory.specs.Keep.{replaced-ids, replaced-named}
 use Rattle.theory.specs.Left.{stabilize-table}
 use Rattle.theory.specs.Runs.{Good, stabilize-good}
@@ -35,6 +35,12 @@ pub record Turn (n most : ℕ) (ws : List ℕ) : Type 0 where
   pub few : agains ≤ most
   pub each : (k : ℕ) → k < agains → stabilizeAnswer (run (replicate k (Stabilize n)) ws) n ≡ accepted (0 ∷ [])
   pub last : Settles n (run (replicate agains (Stabilize n)) ws)
+
+-- after at most so many steps of n its first entry is a member
+pub record Clears (n most : ℕ) (ws : List ℕ) : Type 0 where
+  pub steps : ℕ
+  pub few : steps ≤ most
+  pub clear : live (membersIn (run (replicate steps (Stabilize n)) ws)) (successor (named (membersIn (run (replicate steps (Stabilize n)) ws)) n)) ≡ true
 
 -- Lists and members
 
@@ -142,11 +148,72 @@ module _ (n : ℕ) where
   turn zero ws g a = turn-by 0 ws g (λ p q. absurd (true≢false (sym (a .lives) ∙ q)))
   turn (suc i) ws g a = turn-by (suc i) ws g (λ p q. turn-next ws i (replies ws g (again (membersIn ws) (named (membersIn ws) n) p q)) (turn i (stabilizeWords ws n) (next ws g) (nearer ws g i p q a)))
 
+  -- A first entry that is a member
+
+  clear-here : (ws : List ℕ) (most : ℕ) → live (membersIn ws) (successor (named (membersIn ws) n)) ≡ true → Clears n most ws
+  unfolding run
+  clear-here ws most h = record { steps = 0; few = omega arith; clear = h }
+
+  clear-next : (ws : List ℕ) (most : ℕ) → Clears n most (stabilizeWords ws n) → Clears n (suc most) ws
+  unfolding run callWords
+  clear-next ws most c = record { steps = suc (c .steps); few = omega (arith, c .few); clear = c .clear }
+
+  -- nothing pending, and a live entry at place i: i steps
+  clears : (i : ℕ) (ws : List ℕ) → With ws → isPending (named (membersIn ws) n) ≡ false → LiveAt (ids (membersIn ws)) (named (membersIn ws) n .successors) i → Clears n i ws
+  clears zero ws g p a = clear-here ws 0 (a .lives)
+  clears (suc i) ws g p a = go (live (membersIn ws) (successor (named (membersIn ws) n))) refl (λ q. clears i (stabilizeWords ws n) (next ws g) (ap isPending (stepped ws g ∙ sym (step-dead (membersIn ws) (named (membersIn ws) n) space p q)) ∙ p) (nearer ws g i p q a))
+    where
+      go : (d : Bool) → live (membersIn ws) (successor (named (membersIn ws) n)) ≡ d → (live (membersIn ws) (successor (named (membersIn ws) n)) ≡ false → Clears n i (stabilizeWords ws n)) → Clears n (suc i) ws
+      go true q ih = clear-here ws (suc i) q
+      go false q ih = clear-next ws i (ih q)
+
+  -- a pending step leaves nothing pending, and a live entry no further behind
+  finished : (i : ℕ) (ws : List ℕ) (g : With ws) → isPending (named (membersIn ws) n) ≡ true → LiveAt (ids (membersIn ws)) (named (membersIn ws) n .successors) i → Clears n i (stabilizeWords ws n)
+  unfolding stabilizeFromPredecessor
+  finished i ws g p a = go (live ms (m .candidate)) refl (stepped ws g ∙ sym (step-pending ms m space p))
+    where
+      ms : List Member
+      ms = membersIn ws
+
+      m : Member
+      m = named ms n
+
+      go : (b : Bool) → live ms (m .candidate) ≡ b → named (membersIn (stabilizeWords ws n)) n ≡ clearPending (if b then adopt (m .candidate) (named ms (m .candidate) .successors) m else m) → Clears n i (stabilizeWords ws n)
+      go true e q = clear-here (stabilizeWords ws n) i (rw q (subst (λ (xs : List ℕ). contains xs (m .candidate) ≡ true) (sym (same-ids ws g)) e))
+      go false e q = clears i (stabilizeWords ws n) (next ws g) (ap isPending q) (subst (λ (xs : List ℕ). LiveAt xs (named (membersIn (stabilizeWords ws n)) n .successors) i) (sym (same-ids ws g)) (subst (λ (v : Member). LiveAt (ids ms) (v .successors) i) (sym q) a))
+
+  clears-by : (i : ℕ) (ws : List ℕ) → With ws → LiveAt (ids (membersIn ws)) (named (membersIn ws) n .successors) i → Clears n (suc i) ws
+  clears-by i ws g a = go (isPending (named (membersIn ws) n)) refl
+    where
+      go : (b : Bool) → isPending (named (membersIn ws) n) ≡ b → Clears n (suc i) ws
+      go true p = clear-next ws i (finished i ws g p a)
+      go false p = let c = clears i ws g p a in record { steps = c .steps; few = omega (arith, c .few); clear = c .clear }
+
+-- a live entry of a member of a sound table
+module _ (ws : List ℕ) (n : ℕ) (h : wellFormed ws ≡ true) (s : sound (tableOf ws) ≡ true) (l : live (membersIn ws) n ≡ true) where
+  record Ready : Type 0 where
+    place : ℕ
+    below : place < tableOf ws .r
+    there : LiveAt (ids (membersIn ws)) (named (membersIn ws) n .successors) place
+    with-it : With n ws
+
+  ready : Ready
+  ready =
+      let f = found (membersIn ws) (live-in (membersIn ws) n l) in
+      let a = live-at (ids (membersIn ws)) (named (membersIn ws) n .successors) (sound-facts (tableOf ws) s .live-entry (named (membersIn ws) n) (f .0)) in
+      let t = wellFormed-facts ws h .table .each (named (membersIn ws) n) (f .0) .list-length in
+      record { place = a .0; below = omega (arith, a .1 .inside, t); there = a .1; with-it = record { good = record { well-formed = h; is-sound = s }; member = l } }
+
 -- of every member of a sound table: "again" at most r - 1 times, then "look" at most once, then "done"
 pub again-ends : (ws : List ℕ) (n : ℕ) → wellFormed ws ≡ true → sound (tableOf ws) ≡ true → live (membersIn ws) n ≡ true → Turn n (tableOf ws .r - 1) ws
 again-ends ws n h s l =
-    let f = found (membersIn ws) (live-in (membersIn ws) n l) in
-    let a = live-at (ids (membersIn ws)) (named (membersIn ws) n .successors) (sound-facts (tableOf ws) s .live-entry (named (membersIn ws) n) (f .0)) in
-    let e = turn n (a .0) ws (record { good = record { well-formed = h; is-sound = s }; member = l }) (a .1) in
-    let t = wellFormed-facts ws h .table .each (named (membersIn ws) n) (f .0) .list-length in
-    record { agains = e .agains; few = omega (arith, e .few, a .1 .inside, t); each = e .each; last = e .last }
+    let a = ready ws n h s l in
+    let e = turn n (a .place) ws (a .with-it) (a .there) in
+    record { agains = e .agains; few = omega (arith, e .few, a .below); each = e .each; last = e .last }
+
+-- and its first entry is a member after at most r steps: r - 1 that drop one, and one that was pending
+pub first-clears : (ws : List ℕ) (n : ℕ) → wellFormed ws ≡ true → sound (tableOf ws) ≡ true → live (membersIn ws) n ≡ true → Clears n (tableOf ws .r) ws
+first-clears ws n h s l =
+    let a = ready ws n h s l in
+    let c = clears-by n (a .place) ws (a .with-it) (a .there) in
+    record { steps = c .steps; few = omega (arith, c .few, a .below); clear = c .clear }
