@@ -1,4 +1,4 @@
--- One lemma for all steps: a table keeps well-formed and sound if its members are the old ones and at most one fresh record.
+-- One lemma for all steps: a table keeps well-formed and sound if its members are the old ones and at most one fresh record. And where each record is then found.
 use mathlib.Core.Path.{_≡_, refl, sym, ap, _∙_}
 use mathlib.Core.Logic.{_⊎_, inl, inr, ⊎-elim}
 use mathlib.Core.Bool.{Bool, true, false, not}
