@@ -15,10 +15,10 @@ use Rattle.model.specs.Answer.{accepted, declined}
 use Rattle.model.specs.Image.{bytesOf, field, memberFields, imageOf, fieldMembers, imageR, imageCount, tableIn, isImage}
 use Rattle.model.specs.Refusals.{writeRefusal, readRefusal}
 use Rattle.model.specs.Calls.{writeAnswer, writeBytes, readAnswer, readWords}
-use Rattle.laws.specs.Lists.{and-true}
+use Rattle.laws.specs.Lists.{and-true, same-eq}
 use Rattle.laws.specs.Words.{Lengths, members-length}
 use Rattle.laws.specs.Tables.{formed-facts, formed-lists, wellFormed-facts}
-use Rattle.laws.specs.Bytes.{same-eq, fieldSize, fields-length, image-length, in-length, in-lists}
+use Rattle.laws.specs.Bytes.{fieldSize, fields-length, image-length, in-length, in-lists}
 use Rattle.octets.specs.Placed.{placed}
 use Rattle.fields.specs.Fields.{firstSize, imageSize, headerBytes, imageSteps}
 use Rattle.octets.proofs.Placed.{placed-then}

@@ -13,7 +13,8 @@ use Rattle.model.specs.Lists.{every, same, rising, risingFrom}
 use Rattle.model.specs.Identifier.{space}
 use Rattle.model.specs.Table.{Member, recordSize, recordOf, ids, formedMember, formed}
 use Rattle.model.specs.Image.{bytesOf, numberFrom, numberAt, numbersAt, field, memberField, memberFields, imageOf, fieldHead, headerLength, memberLength, fieldMember, fieldMembers, imageR, imageCount, tableIn, isImage}
-use Rattle.laws.specs.Bytes.{Bytes, bytes-drop, number-below, numbers-length, words-said, same-eq, fieldSize, contents, contents-written, cut, said-at, image-length, in-length, in-lists}
+use Rattle.laws.specs.Lists.{same-eq}
+use Rattle.laws.specs.Bytes.{Bytes, bytes-drop, number-below, numbers-length, words-said, fieldSize, contents, contents-written, cut, said-at, image-length, in-length, in-lists}
 use Rattle.table.specs.Tests.{rightPending}
 use Rattle.table.proofs.Formed.{Bounded, member-right}
 use Rattle.fields.specs.Fields.{firstSize, imageSize, headIs, imageSteps, idIn}

@@ -89,6 +89,7 @@ causes-left ws n cs h = go (not (wellFormed ws)) (not (live (membersIn ws) n)) h
     go false false h = refl
 
 pub record MayLeave (ws : List ℕ) (n : ℕ) : Type 0 where
+  pub table : wellFormed ws ≡ true
   pub is-member : live (membersIn ws) n ≡ true
   pub none-cut-off : cutsOff (without n (tableOf ws)) ≡ false
   pub enough-left : tooFewPrincipals (without n (tableOf ws)) ≡ false
@@ -100,7 +101,7 @@ leave-accepted ws n h =
     let b = none-applies 2 _ _ (a .1) in
     let c = none-applies 5 _ _ (b .1) in
     let d = none-applies 6 (tooFewPrincipals (without n (tableOf ws))) 0 (c .1) in
-    record { is-member = not-false _ (b .0); none-cut-off = c .0; enough-left = d .0 }
+    record { table = not-false _ (a .0); is-member = not-false _ (b .0); none-cut-off = c .0; enough-left = d .0 }
 
 pub has-room : (ws : List ℕ) → full ws ≡ false → (length (membersIn ws) < 256) × (recordSize (tableOf ws .r) ≤ length ws - size (tableOf ws))
 unfolding full

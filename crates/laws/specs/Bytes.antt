@@ -19,18 +19,6 @@ use Rattle.laws.specs.Parts.{drop-take, part-of-part}
 use Rattle.laws.specs.Words.{Lengths}
 use Rattle.laws.specs.Tables.{FormedMember, Formed}
 
--- Equal lists
-
-pub same-eq : (l m : List ℕ) → same l m ≡ true → l ≡ m
-same-eq [] [] h = refl
-same-eq [] (y ∷ m) h = absurd (false≢true h)
-same-eq (x ∷ l) [] h = absurd (false≢true h)
-same-eq (x ∷ l) (y ∷ m) h = let a = and-true (eqb x y) _ h in ap₂ (λ (z : ℕ) (k : List ℕ). z ∷ k) (eqb-true x y (a .0)) (same-eq l m (a .1))
-
-pub same-refl : (l : List ℕ) → same l l ≡ true
-same-refl [] = refl
-same-refl (x ∷ l) = true-and (eq-eqb x x refl) (same-refl l)
-
 -- A number and its bytes
 
 number-append : (a : ℕ) (l m : List ℕ) → numberFrom a (l ++ m) ≡ numberFrom (numberFrom a l) m

@@ -1,5 +1,5 @@
--- Lists: membership, no element twice, a pigeonhole, counts, tests of all and of some, rising numbers, and the members of a table by name.
-use mathlib.Core.Path.{_≡_, refl, sym, ap, _∙_}
+-- Lists: equal lists, membership, no element twice, a pigeonhole, counts, tests of all and of some, rising numbers, and the members of a table by name.
+use mathlib.Core.Path.{_≡_, refl, sym, ap, ap₂, _∙_}
 use mathlib.Core.Logic.{_⊎_, inl, inr}
 use mathlib.Core.Bool.{Bool, true, false, not, _&&_, _||_, true≢false, false≢true}
 use mathlib.Core.List.{List, [], _∷_, _++_}
@@ -8,7 +8,7 @@ use native.Mathlib.Omega.{arith}
 use lib.ListN.{length}
 use lib.Dec.{ltb, eqb}
 use borrow.Author.Tests.{eqb-true, eqb-false, eq-eqb, ne-eqb, ltb-true, lt-ltb}
-use Rattle.model.specs.Lists.{if_then_else_, every, any, select, bit, count, contains, risingFrom, rising}
+use Rattle.model.specs.Lists.{if_then_else_, every, any, select, bit, count, contains, risingFrom, rising, same}
 use Rattle.model.specs.Table.{Member, ids}
 use Rattle.model.specs.Ring.{live, nobody, named}
 
@@ -46,6 +46,18 @@ implied h e = rw e at h
 pub implies : (a b : Bool) → (a ≡ true → b ≡ true) → (not a || b) ≡ true
 implies true b h = h refl
 implies false b h = refl
+
+-- Equal lists
+
+pub same-eq : (l m : List ℕ) → same l m ≡ true → l ≡ m
+same-eq [] [] h = refl
+same-eq [] (y ∷ m) h = absurd (false≢true h)
+same-eq (x ∷ l) [] h = absurd (false≢true h)
+same-eq (x ∷ l) (y ∷ m) h = let a = and-true (eqb x y) _ h in ap₂ (λ (z : ℕ) (k : List ℕ). z ∷ k) (eqb-true x y (a .0)) (same-eq l m (a .1))
+
+pub same-refl : (l : List ℕ) → same l l ≡ true
+same-refl [] = refl
+same-refl (x ∷ l) = true-and (eq-eqb x x refl) (same-refl l)
 
 -- Membership
 
@@ -147,6 +159,10 @@ bit-le : (a b : Bool) → (a ≡ true → b ≡ true) → bit a ≤ bit b
 bit-le true b h = rw (h refl) (omega arith)
 bit-le false b h = omega arith
 
+bit-one : (a : Bool) → bit a ≤ 1
+bit-one true = omega arith
+bit-one false = omega arith
+
 pub count-le : (f g : ℕ → Bool) (l : List ℕ) → ((x : ℕ) → In x l → f x ≡ true → g x ≡ true) → count f l ≤ count g l
 count-le f g [] h = omega arith
 count-le f g (x ∷ l) h = omega (arith, count-le f g l (λ y m. h y (there m)), bit-le (f x) (g x) (h x (here refl)))
@@ -154,6 +170,24 @@ count-le f g (x ∷ l) h = omega (arith, count-le f g l (λ y m. h y (there m)),
 pub count-lt : (f g : ℕ → Bool) {l : List ℕ} → ((x : ℕ) → In x l → f x ≡ true → g x ≡ true) → {z : ℕ} → In z l → f z ≡ false → g z ≡ true → count f l < count g l
 count-lt f g h {z} (here {y} {l} e) p q = rw (← e, p, q) (omega (arith, count-le f g l (λ y m. h y (there m))))
 count-lt f g h {z} (there {y} {l} m) p q = omega (arith, count-lt f g (λ x i. h x (there i)) m p q, bit-le (f y) (g y) (h y (here refl)))
+
+-- where no element stands twice, one element less costs at most one
+pub count-but-one : (n : ℕ) (f g : ℕ → Bool) (l : List ℕ) → NoDup l → ((x : ℕ) → (x ≡ n → ⊥) → f x ≡ true → g x ≡ true) → count f l ≤ suc (count g l)
+count-but-one n f g [] nd h = omega arith
+count-but-one n f g (x ∷ l) nd h = go (eqb x n) refl (count-but-one n f g l (nd .1) h)
+  where
+    go : (b : Bool) → eqb x n ≡ b → count f l ≤ suc (count g l) → count f (x ∷ l) ≤ suc (count g (x ∷ l))
+    go true e ih = omega (arith, count-le f g l (λ y m. h y (λ q. nd .0 (rw (q ∙ sym (eqb-true x n e)) at m))), bit-one (f x))
+    go false e ih = omega (arith, bit-le (f x) (g x) (h x (eqb-false x n e)))
+
+-- some element passes a test that counts one
+pub count-any : (f : ℕ → Bool) (l : List ℕ) → 0 < count f l → any f l ≡ true
+count-any f [] h = absurd (omega arith)
+count-any f (x ∷ l) h = go (f x) h (count-any f l)
+  where
+    go : (b : Bool) → 0 < bit b + count f l → (0 < count f l → any f l ≡ true) → (b || any f l) ≡ true
+    go true k ih = refl
+    go false k ih = ih (omega arith)
 
 pub count-all : (l : List ℕ) → count (λ x. true) l ≡ length l
 count-all [] = refl

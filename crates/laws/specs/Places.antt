@@ -8,8 +8,7 @@ use lib.ListN.{length, getD, take, drop, drop-of-length-le}
 use lib.Seq.{drop-cons, take-append-le}
 use borrow.Author.Tests.{lt-ltb, le-ltb}
 use Rattle.model.specs.Lists.{lastOf}
-use Rattle.model.specs.Ring.{firstAbove, lastBelow, nextUp, nextDown}
-use Rattle.model.specs.New.{nextUps}
+use Rattle.model.specs.Ring.{firstAbove, lastBelow, nextUp, nextDown, nextUps}
 use Rattle.laws.specs.Order.{less?}
 use Rattle.laws.specs.Lists.{In, here, there, in-cons, in-nil, Rising, above-in}
 use Rattle.laws.specs.Extended.{last-cons}
@@ -60,6 +59,11 @@ taken (y ∷ l) n h = rw (take-append-le n l (y ∷ l) (omega arith))
 pub next-ups-length : (n : ℕ) (xs : List ℕ) (x : ℕ) → length (nextUps n xs x) ≡ n
 next-ups-length zero xs x = refl
 next-ups-length (suc n) xs x = ap suc (next-ups-length n xs (nextUp xs x))
+
+-- the first of them is the next up
+pub next-ups-first : (n : ℕ) (xs : List ℕ) (x : ℕ) → 1 ≤ n → getD (nextUps n xs x) 0 0 ≡ nextUp xs x
+next-ups-first zero xs x h = absurd (omega arith)
+next-ups-first (suc n) xs x h = refl
 
 module _ (xs : List ℕ) (a : Rising xs) where
   pub next-up-place : (k : ℕ) → suc k < length xs → nextUp xs (getD xs k 0) ≡ getD xs (suc k) 0

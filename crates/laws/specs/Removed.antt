@@ -1,5 +1,5 @@
 -- The members without one: those that are left were members, one fewer, still by rising identifier, and the table stays well-formed.
-use mathlib.Core.Path.{_≡_, refl, sym, ap}
+use mathlib.Core.Path.{_≡_, refl, sym, ap, _∙_}
 use mathlib.Core.Logic.{_⊎_, inl, inr, ⊎-elim}
 use mathlib.Core.Bool.{Bool, true, false}
 use mathlib.Core.List.{List, [], _∷_}
@@ -7,7 +7,7 @@ use Prim.Native.Nat.{ℕ, suc, _+_, _*_}
 use native.Mathlib.Omega.{arith}
 use lib.ListN.{length}
 use lib.Dec.{eqb}
-use borrow.Author.Tests.{eqb-false}
+use borrow.Author.Tests.{eqb-true, eqb-false}
 use Rattle.model.specs.Lists.{if_then_else_}
 use Rattle.model.specs.Table.{Member, Table, recordSize, size, ids}
 use Rattle.model.specs.Ring.{named}
@@ -23,8 +23,19 @@ removed-from n m (k ∷ ms) i = go (eqb (k .id) n) i (removed-from n m ms)
     go true i ih = there i
     go false i ih = ⊎-elim (λ e. here e) (λ j. there (ih j)) (in-cons i)
 
-removed-ids : (n x : ℕ) (ms : List Member) → In x (ids (removed n ms)) → In x (ids ms)
+pub removed-ids : (n x : ℕ) (ms : List Member) → In x (ids (removed n ms)) → In x (ids ms)
 removed-ids n x ms i = let w = found (removed n ms) i in (rw (w .1) at (in-ids (removed-from n (named (removed n ms) x) ms (w .0))))
+
+-- every other member stays
+pub removed-keeps : (n x : ℕ) (ms : List Member) → In x (ids ms) → (x ≡ n → ⊥) → In x (ids (removed n ms))
+removed-keeps n x [] i d = i
+removed-keeps n x (m ∷ ms) i d = go (eqb (m .id) n) refl (in-cons i) (λ j. removed-keeps n x ms j d)
+  where
+    go : (b : Bool) → eqb (m .id) n ≡ b → (x ≡ m .id) ⊎ In x (ids ms) → (In x (ids ms) → In x (ids (removed n ms))) → In x (ids (if b then ms else m ∷ removed n ms))
+    go true e (inl q) ih = absurd (d (q ∙ eqb-true (m .id) n e))
+    go true e (inr j) ih = j
+    go false e (inl q) ih = here q
+    go false e (inr j) ih = there (ih j)
 
 pub removed-length : (n : ℕ) (ms : List Member) → In n (ids ms) → suc (length (removed n ms)) ≡ length ms
 removed-length n [] i = absurd (in-nil i)

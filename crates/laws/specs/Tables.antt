@@ -1,4 +1,4 @@
--- What it says of a table that it is well-formed, and that it is sound: the tests of model as records of facts.
+-- What it says of a table that it is well-formed, that it is sound, and that it is ideal: the tests of model as records of facts.
 use mathlib.Core.Path.{_≡_, refl, ap}
 use mathlib.Core.Bool.{true, _||_}
 use mathlib.Core.List.{List, _∷_}
@@ -9,9 +9,10 @@ use lib.ListN.{length}
 use borrow.Author.Tests.{ltb-true, leb-true, eqb-true, lt-ltb, le-leb, eq-eqb, ne-eqb}
 use Rattle.model.specs.Identifier.{space}
 use Rattle.model.specs.Table.{Member, Table, wordLimit, headerSize, recordSize, size, tableOf, ids, formedMember, formed, wellFormed}
-use Rattle.model.specs.Ring.{hasLive, principals, candidateInside, sound}
+use Rattle.model.specs.Ring.{hasLive, principals, candidateInside, sound, nextDown, nextUps, idealMember, ideal}
 use Rattle.model.specs.Calls.{written, writtenFreed}
-use Rattle.laws.specs.Lists.{In, here, there, and-true, true-and, every-in, in-every, Rising, rising-true, true-rising}
+use Rattle.model.specs.Lists.{same}
+use Rattle.laws.specs.Lists.{In, here, there, and-true, true-and, same-eq, same-refl, every-in, in-every, Rising, rising-true, true-rising}
 use Rattle.laws.specs.Words.{Lengths, written-table, writtenFreed-table, written-length, writtenFreed-length}
 
 -- a record is right
@@ -44,6 +45,14 @@ pub record Sound (T : Table) : Type 0 where
   pub live-entry : (m : Member) → In m (T .members) → hasLive (T .members) m ≡ true
   pub enough : T .r + 1 ≤ principals (T .members)
   pub candidate-inside : (m : Member) → In m (T .members) → candidateInside m ≡ true
+
+-- a member of the identifiers xs is ideal, and a table is
+pub record IdealMember (r : ℕ) (xs : List ℕ) (m : Member) : Type 0 where
+  pub list : m .successors ≡ nextUps r xs (m .id)
+  pub below : m .predecessor ≡ nextDown xs (m .id)
+
+pub record Ideal (T : Table) : Type 0 where
+  pub each : (m : Member) → In m (T .members) → IdealMember (T .r) (ids (T .members)) m
 
 -- pending is 1, or there is no candidate
 no-candidate-of : (p c : ℕ) → (eqb p 1 || eqb c 0) ≡ true → p ≡ 0 → c ≡ 0
@@ -121,6 +130,22 @@ sound-facts T h =
 pub facts-sound : (T : Table) → Sound T → sound T ≡ true
 unfolding sound
 facts-sound T s = true-and (true-and (in-every (hasLive (T .members)) (T .members) (s .live-entry)) (le-leb _ _ (s .enough))) (in-every candidateInside (T .members) (s .candidate-inside))
+
+pub ideal-member : (r : ℕ) (xs : List ℕ) (m : Member) → idealMember r xs m ≡ true → IdealMember r xs m
+unfolding idealMember
+ideal-member r xs m h = let a = and-true (same (m .successors) (nextUps r xs (m .id))) _ h in record { list = same-eq _ _ (a .0); below = eqb-true _ _ (a .1) }
+
+pub member-ideal : (r : ℕ) (xs : List ℕ) (m : Member) → IdealMember r xs m → idealMember r xs m ≡ true
+unfolding idealMember
+member-ideal r xs m d = rw (d .list, d .below) (true-and (same-refl (nextUps r xs (m .id))) (eq-eqb (nextDown xs (m .id)) _ refl))
+
+pub ideal-facts : (T : Table) → ideal T ≡ true → Ideal T
+unfolding ideal
+ideal-facts T h = record { each = λ m i. ideal-member (T .r) (ids (T .members)) m (every-in (idealMember (T .r) (ids (T .members))) h i) }
+
+pub facts-ideal : (T : Table) → Ideal T → ideal T ≡ true
+unfolding ideal
+facts-ideal T d = in-every (idealMember (T .r) (ids (T .members))) (T .members) (λ m i. member-ideal (T .r) (ids (T .members)) m (d .each m i))
 
 -- A slice that holds a well-formed table, no shorter than it
 

@@ -1,17 +1,17 @@
--- Document 01, "Table of settled examples": one statement over a list of cases, computed. Then document 02's Req 01, Req 02 and Req 03.
+-- Document 01, "Table of settled examples": one statement over a list of cases, computed. Then document 02's Req 01 to Req 04.
 use Prim.Native.Nat.{ℕ}
 use mathlib.Core.Path.{_≡_, refl}
 use mathlib.Core.List.{List, [], _∷_, _++_, map}
 use lib.ListN.{length, replicate, take}
 use Rattle.model.specs.Lists.{bit}
 use Rattle.model.specs.Identifier.{between, after}
-use Rattle.model.specs.Table.{size, tableOf, membersIn, wordsOf, wellFormed, formed, formedMember}
-use Rattle.model.specs.Ring.{named, sound, candidateInside}
+use Rattle.model.specs.Table.{Member, Table, size, tableOf, membersIn, wordsOf, wellFormed, formed, formedMember}
+use Rattle.model.specs.Ring.{named, sound, candidateInside, ideal, idealMember, verdict}
 use Rattle.model.specs.Steps.{stabilize, stabilizeReply, nextStep}
 use Rattle.model.specs.New.{newTable}
 use Rattle.model.specs.Held.{runsOf}
 use Rattle.model.specs.Refusals.{full, newRefusal, noNewTable, joinRefusal, memberRefusal, leaveRefusal, cutsOff, tooFewPrincipals, heldRefusal}
-use Rattle.model.specs.Calls.{joinAnswer, joinWords, stabilizeAnswer, stabilizeWords, failWords, newAnswer, newWords, leaveAnswer, heldAnswer, principalAnswer}
+use Rattle.model.specs.Calls.{joinAnswer, joinWords, stabilizeAnswer, stabilizeWords, failWords, newAnswer, newWords, leaveAnswer, leaveWords, heldAnswer, principalAnswer}
 
 -- a case: what the definitions compute, and what document 01 says
 pub record Case : Type 0 where
@@ -112,3 +112,54 @@ joinCases =
 pub join : map (λ c. c .computed) joinCases ≡ map (λ c. c .expected) joinCases
 unfolding joinAnswer joinWords joinRefusal full failWords stabilizeWords stabilize nextStep after memberRefusal between newWords newRefusal noNewTable wellFormed formed formedMember
 join = refl
+
+-- a member with nothing pending, and a table of such members with lists of two
+abbrev pub settledMember : ℕ → ℕ → List ℕ → Member
+settledMember x p l = record { id = x; predecessor = p; pending = 0; candidate = 0; successors = l }
+
+abbrev pub listsOfTwo : List Member → Table
+listsOfTwo ms = record { r = 2; steps = 0; members = ms }
+
+-- the ring of 10, 20, 30 and 40 with e for the second entry of 30, whose next two members up are 40 and 10, and p for the predecessor of 10
+abbrev pub ring4 : ℕ → ℕ → Table
+ring4 e p = listsOfTwo (settledMember 10 p (20 ∷ 30 ∷ []) ∷ settledMember 20 10 (30 ∷ 40 ∷ []) ∷ settledMember 30 20 (40 ∷ e ∷ []) ∷ settledMember 40 30 (10 ∷ 20 ∷ []) ∷ [])
+
+-- two members, 10 and 20, with e for the second entry of 20: the next two members up from each are the other and itself
+abbrev pub ring2 : ℕ → Table
+ring2 e = listsOfTwo (settledMember 10 20 (20 ∷ 10 ∷ []) ∷ settledMember 20 10 (10 ∷ e ∷ []) ∷ [])
+
+-- the verdict looks at whole lists, in order and round the end: 2, or 1 for a second entry that is not the second member up, alive or dead, and for another predecessor;
+-- smaller tables are ideal (1) or not (0), and never sound: of two members, of one, whose next two up are twice itself, and of none
+abbrev pub verdictCases : List Case
+verdictCases =
+    (verdict (ring4 10 40) ∷ verdict (ring4 20 40) ∷ verdict (ring4 50 40) ∷ verdict (ring4 10 30) ∷ [] gives 2 ∷ 1 ∷ 1 ∷ 1 ∷ []) ∷
+    (bit (ideal (ring2 20)) ∷ bit (ideal (ring2 30)) ∷ verdict (ring2 20) ∷ [] gives 1 ∷ 0 ∷ 0 ∷ []) ∷
+    (bit (ideal (tableOf (lone (50 ∷ 50 ∷ [])))) ∷ bit (ideal (tableOf (lone (50 ∷ 60 ∷ [])))) ∷ verdict (tableOf (lone (50 ∷ 50 ∷ []))) ∷ [] gives 1 ∷ 0 ∷ 0 ∷ []) ∷
+    (bit (ideal (listsOfTwo [])) ∷ verdict (listsOfTwo []) ∷ [] gives 1 ∷ 0 ∷ []) ∷ []
+
+pub verdicts : map (λ c. c .computed) verdictCases ≡ map (λ c. c .expected) verdictCases
+unfolding verdict sound ideal idealMember candidateInside between
+verdicts = refl
+
+-- a new ring
+abbrev pub ringOf : ℕ → List ℕ → List ℕ
+ringOf r xs = newWords (replicate 60 0) r xs
+
+-- neighbours withdraw one after the other: with r = 3 two of seven are granted it, the third is 6; with r = 2 the second of six is 6; and of four
+-- members with r = 2 one is granted it, and the next, which would leave two, is 7
+abbrev pub withdrawalCases : List Case
+withdrawalCases =
+    let three = ringOf 3 (10 ∷ 20 ∷ 30 ∷ 40 ∷ 50 ∷ 60 ∷ 70 ∷ []) in
+    let six = ringOf 2 (10 ∷ 20 ∷ 30 ∷ 40 ∷ 50 ∷ 60 ∷ []) in
+    let four = ringOf 2 (10 ∷ 20 ∷ 30 ∷ 40 ∷ []) in
+    (leaveAnswer three 20 .values gives 6 ∷ []) ∷
+    (leaveAnswer (leaveWords three 20) 30 .values gives 5 ∷ []) ∷
+    (leaveAnswer (leaveWords (leaveWords three 20) 30) 40 .number ∷ [] gives 6 ∷ []) ∷
+    (leaveAnswer six 20 .values gives 5 ∷ []) ∷
+    (leaveAnswer (leaveWords six 20) 30 .number ∷ [] gives 6 ∷ []) ∷
+    (leaveAnswer four 10 .values gives 3 ∷ []) ∷
+    (leaveAnswer (leaveWords four 10) 30 .number ∷ [] gives 7 ∷ []) ∷ []
+
+pub withdrawals : map (λ c. c .computed) withdrawalCases ≡ map (λ c. c .expected) withdrawalCases
+unfolding leaveAnswer leaveWords leaveRefusal cutsOff tooFewPrincipals between newWords newRefusal noNewTable wellFormed formed formedMember
+withdrawals = refl

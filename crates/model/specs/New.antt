@@ -1,13 +1,8 @@
 -- Document 01, "Starting, saving, and the rest": the new table.
-use Prim.Native.Nat.{ℕ, zero, suc}
-use mathlib.Core.List.{List, [], _∷_, map}
+use Prim.Native.Nat.{ℕ}
+use mathlib.Core.List.{List, map}
 use Rattle.model.specs.Table.{Member, Table}
-use Rattle.model.specs.Ring.{nextUp, nextDown}
-
--- of rising identifiers the next n up from x, round the end
-abbrev pub nextUps : ℕ → List ℕ → ℕ → List ℕ
-nextUps zero xs x = []
-nextUps (suc n) xs x = nextUp xs x ∷ nextUps n xs (nextUp xs x)
+use Rattle.model.specs.Ring.{nextDown, nextUps}
 
 -- the record of x in the new table of the identifiers xs
 abbrev pub newMember : ℕ → List ℕ → ℕ → Member

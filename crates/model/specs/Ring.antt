@@ -5,7 +5,7 @@ use mathlib.Core.List.{List, [], _∷_}
 use mathlib.Core.Option.{Option, some, none}
 use lib.Dec.{ltb, leb, eqb}
 use lib.ListN.{length, getD}
-use Rattle.model.specs.Lists.{if_then_else_, option, every, any, count, contains, lastOf}
+use Rattle.model.specs.Lists.{if_then_else_, option, every, any, count, contains, lastOf, same}
 use Rattle.model.specs.Identifier.{between}
 use Rattle.model.specs.Table.{Member, Table, ids}
 
@@ -112,13 +112,18 @@ nextUp xs x = firstAbove x xs (getD xs 0 0)
 abbrev pub nextDown : List ℕ → ℕ → ℕ
 nextDown xs x = lastBelow x xs (lastOf xs)
 
--- a member's successor and predecessor are the next members up and down
-unfoldable pub idealMember : List ℕ → Member → Bool
-idealMember xs m = eqb (successor m) (nextUp xs (m .id)) && eqb (m .predecessor) (nextDown xs (m .id))
+-- of rising identifiers the next n up from x, in order, round the end; of n or fewer they repeat, and x itself is among them
+abbrev pub nextUps : ℕ → List ℕ → ℕ → List ℕ
+nextUps zero xs x = []
+nextUps (suc n) xs x = nextUp xs x ∷ nextUps n xs (nextUp xs x)
+
+-- a member's list is the next r members up, in order, and its predecessor the next member down (document 02, Req 04: the whole list)
+unfoldable pub idealMember : ℕ → List ℕ → Member → Bool
+idealMember r xs m = same (m .successors) (nextUps r xs (m .id)) && eqb (m .predecessor) (nextDown xs (m .id))
 
 -- a table is ideal
 unfoldable pub ideal : Table → Bool
-ideal T = every (idealMember (ids (T .members))) (T .members)
+ideal T = every (idealMember (T .r) (ids (T .members))) (T .members)
 
 -- the audit's verdict: 0 not sound, 1 sound, 2 sound and ideal
 unfoldable pub verdict : Table → ℕ

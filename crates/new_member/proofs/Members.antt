@@ -9,8 +9,8 @@ use lib.ListN.{length, getD, take, drop, set, length-append, length-drop, take-a
 use lib.Seq.{take-at, drop-at, drop-drop, drop-append-seam, take-append-le, sets, sets-eq}
 use Rattle.model.specs.Lists.{rising, overlay}
 use Rattle.model.specs.Table.{recordSize, recordOf}
-use Rattle.model.specs.Ring.{nextUp, nextDown}
-use Rattle.model.specs.New.{nextUps, newMember}
+use Rattle.model.specs.Ring.{nextUp, nextDown, nextUps}
+use Rattle.model.specs.New.{newMember}
 use Rattle.laws.specs.Lists.{rising-true}
 use Rattle.laws.specs.Places.{next-ups-length, next-ups-place}
 use Rattle.laws.specs.Parts.{part-from, tail-back}

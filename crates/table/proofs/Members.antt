@@ -78,7 +78,7 @@ module _ (ws : List ℕ) where
         let s = suc-mul k (recordSize (getD ws 0 0)) in
         omega arith
 
-    whole : memberOf (getD ws 0 0) (drop at ws) ≡ getD (membersIn ws) k nobody
+    pub whole : memberOf (getD ws 0 0) (drop at ws) ≡ getD (membersIn ws) k nobody
     whole = let r : ℕ = getD ws 0 0 in rw (e, ← drop-drop (k * recordSize r) headerSize ws) (member-there r (getD ws 1 0) k (drop headerSize ws) h)
 
     -- the member there, as its part of the table says it

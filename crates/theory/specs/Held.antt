@@ -8,20 +8,20 @@ use Prim.Native.Nat.{ℕ, _+_, _≤_, _<_}
 use native.Mathlib.Omega.{arith}
 use lib.Dec.{ltb, leb, eqb, leb·zero}
 use lib.ListN.{length, getD}
-use borrow.Author.Tests.{lt-ltb, le-ltb, le-leb, lt-leb, eq-eqb, ne-eqb, eqb-true, leb-true}
+use borrow.Author.Tests.{lt-ltb, le-ltb, le-leb, lt-leb, eq-eqb, ne-eqb, leb-true}
 use Rattle.model.specs.Lists.{bit, rising}
 use Rattle.model.specs.Identifier.{space}
 use Rattle.model.specs.Table.{Member, Table, tableOf, membersIn, ids, wellFormed}
-use Rattle.model.specs.Ring.{live, named, successor, bestSuccessor, firstLive, nextUp, nextDown, idealMember, ideal}
+use Rattle.model.specs.Ring.{live, named, successor, bestSuccessor, firstLive, nextUp, nextDown, ideal}
 use Rattle.model.specs.Held.{firstFrom, lowest, holder, keysTo, Run, _upTo_, runsOf}
 use Rattle.model.specs.Calls.{lookupAnswer}
 use Rattle.laws.specs.Order.{Comparison, less, equals, greater, compare, less?, equal?, Inside, mid, high, low, Outside, below, beyond, rest, inside-true, true-inside, inside-outside}
-use Rattle.laws.specs.Lists.{and-true, In, here, there, in-cons, in-nil, every-in, count-le, count-length, Rising, rising-true, above-in, above-rising, length-ids, found, live-in, in-live}
+use Rattle.laws.specs.Lists.{In, here, there, in-cons, in-nil, count-le, count-length, Rising, rising-true, above-in, above-rising, length-ids, found, live-in, in-live}
 use Rattle.laws.specs.Extended.{head-in}
-use Rattle.laws.specs.Places.{first-least}
+use Rattle.laws.specs.Places.{first-least, next-ups-first}
 use Rattle.laws.specs.Keys.{key-below, key-above}
 use Rattle.laws.specs.Accepted.{member-accepts}
-use Rattle.laws.specs.Tables.{Formed, wellFormed-facts}
+use Rattle.laws.specs.Tables.{Formed, wellFormed-facts, ideal-facts}
 use Rattle.theory.specs.New.{up-in, down-in, up-spares, down-spares}
 use Rattle.theory.specs.Lookup.{Answered, lookupAnswer-answers}
 use Rattle.theory.specs.Owners.{Finds, Owns}
@@ -207,9 +207,8 @@ held-parts ws ks wf one r =
 
 -- On an ideal table find gives the holder
 
-ideal-successor : (T : Table) → ideal T ≡ true → {m : Member} → In m (T .members) → successor m ≡ nextUp (ids (T .members)) (m .id)
-unfolding ideal idealMember
-ideal-successor T h i = eqb-true _ _ (and-true _ _ (every-in (idealMember (ids (T .members))) h i) .0)
+ideal-successor : (T : Table) → 1 ≤ T .r → ideal T ≡ true → {m : Member} → In m (T .members) → successor m ≡ nextUp (ids (T .members)) (m .id)
+ideal-successor T some-entry h {m} i = ap (λ (l : List ℕ). getD l 0 0) (ideal-facts T h .each m i .list) ∙ next-ups-first (T .r) (ids (T .members)) (m .id) some-entry
 
 head-live : (ms : List Member) (l : List ℕ) → 1 ≤ length l → live ms (getD l 0 0) ≡ true → firstLive ms l ≡ some (getD l 0 0)
 head-live ms [] h e = absurd (omega arith)
@@ -219,7 +218,7 @@ ideal-best : (w : ℕ) (T : Table) → Formed w T → ideal T ≡ true → {q : 
 ideal-best w T fo h {q} i =
     let ms : List Member = T .members in
     let f = found ms i in
-    let s : successor (named ms q) ≡ nextUp (ids ms) q = ideal-successor T h (f .0) ∙ ap (nextUp (ids ms)) (f .1) in
+    let s : successor (named ms q) ≡ nextUp (ids ms) q = ideal-successor T (fo .r-low) h (f .0) ∙ ap (nextUp (ids ms)) (f .1) in
     let l : live ms (successor (named ms q)) ≡ true = rw s (in-live ms (up-in (ids ms) (in-some i) q)) in
     head-live ms (named ms q .successors) (omega (arith, fo .each (named ms q) (f .0) .list-length, fo .r-low)) l ∙ ap some s
 

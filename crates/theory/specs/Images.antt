@@ -15,11 +15,11 @@ use Rattle.model.specs.Answer.{accepted}
 use Rattle.model.specs.Image.{imageOf, tableIn, isImage}
 use Rattle.model.specs.Refusals.{writeRefusal, readRefusal}
 use Rattle.model.specs.Calls.{written, writeBytes, readAnswer, readWords}
-use Rattle.laws.specs.Lists.{and-true, true-and}
+use Rattle.laws.specs.Lists.{and-true, true-and, same-eq, same-refl}
 use Rattle.laws.specs.Accepted.{answer-number, none-applies}
 use Rattle.laws.specs.Words.{words-length, written-table, written-length}
 use Rattle.laws.specs.Tables.{formed-facts, facts-formed, wellFormed-facts, facts-wellFormed, formed-lists, written-formed}
-use Rattle.laws.specs.Bytes.{same-eq, same-refl, image-read}
+use Rattle.laws.specs.Bytes.{image-read}
 
 -- the image of a well-formed table is an image, and says that table
 pub read-written : (T : Table) → formed space T ≡ true → (isImage (imageOf T) ≡ true) × (tableIn (imageOf T) ≡ T)

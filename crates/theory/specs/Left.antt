@@ -1,4 +1,4 @@
--- The table that an accepted join, stabilize or rectify step leaves in a slice, sound or not: each list keeps its r entries, so what was written is read.
+-- The table that an accepted call leaves in a slice, sound or not: each list keeps its r entries, so what was written is read.
 use mathlib.Core.Path.{_≡_, refl, ap, _∙_}
 use mathlib.Core.Logic.{_⊎_, inl, inr}
 use mathlib.Core.Bool.{Bool, true, false}
@@ -10,13 +10,14 @@ use Rattle.model.specs.Lists.{if_then_else_, lastOf}
 use Rattle.model.specs.Identifier.{space, after}
 use Rattle.model.specs.Table.{Member, tableOf, membersIn, wellFormed}
 use Rattle.model.specs.Ring.{live, named, successor, isPending}
-use Rattle.model.specs.Steps.{withPredecessor, joiner, joined, dropHead, adopt, awaitCandidate, clearPending, offered, isBetter, stabilizeFromSuccessor, stabilizeFromPredecessor, stabilize, stabilized, renews, rectifyIn, rectified}
-use Rattle.model.specs.Refusals.{joinRefusal, memberRefusal}
-use Rattle.model.specs.Calls.{written, stabilizeWords}
+use Rattle.model.specs.Steps.{withPredecessor, joiner, joined, dropHead, adopt, awaitCandidate, clearPending, offered, isBetter, stabilizeFromSuccessor, stabilizeFromPredecessor, stabilize, stabilized, renews, rectifyIn, rectified, without}
+use Rattle.model.specs.Refusals.{joinRefusal, memberRefusal, leaveRefusal}
+use Rattle.model.specs.Calls.{written, writtenFreed, stabilizeWords, failWords, leaveWords}
 use Rattle.laws.specs.Lists.{In, found, live-in}
-use Rattle.laws.specs.Accepted.{join-accepted, member-table, member-accepted}
-use Rattle.laws.specs.Words.{Lengths, written-table}
+use Rattle.laws.specs.Accepted.{join-accepted, member-table, member-accepted, leave-accepted}
+use Rattle.laws.specs.Words.{Lengths, written-table, writtenFreed-table}
 use Rattle.laws.specs.Tables.{wellFormed-facts, formed-lists}
+use Rattle.laws.specs.Removed.{removed-from}
 use Rattle.theory.specs.Keep.{Changed, replaced-changed, inserted-changed}
 use Rattle.theory.specs.Steps.{adopted-length, dropped-length}
 
@@ -98,3 +99,15 @@ module _ (ws : List ℕ) where
   pub stabilize-table : (n : ℕ) → memberRefusal ws n ≡ 0 → tableOf (stabilizeWords ws n) ≡ stabilized space n (tableOf ws)
   unfolding stabilizeWords
   stabilize-table n e = rw e (stabilized-read n e)
+
+  -- the table without a member, after its accepted loss and after its accepted withdrawal
+  without-read : (n : ℕ) → wellFormed ws ≡ true → tableOf (writtenFreed (without n (tableOf ws)) ws) ≡ without n (tableOf ws)
+  without-read n h = writtenFreed-table (without n (tableOf ws)) ws (λ m i. lists-in h m (removed-from n m (membersIn ws) i))
+
+  pub lost-table : (n : ℕ) → memberRefusal ws n ≡ 0 → tableOf (failWords ws n) ≡ without n (tableOf ws)
+  unfolding failWords
+  lost-table n e = rw e (without-read n (member-table ws n e))
+
+  pub withdrawn-table : (n : ℕ) → leaveRefusal ws n ≡ 0 → tableOf (leaveWords ws n) ≡ without n (tableOf ws)
+  unfolding leaveWords
+  withdrawn-table n e = rw e (without-read n (leave-accepted ws n e .table))

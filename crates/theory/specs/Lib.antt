@@ -12,6 +12,7 @@ pub mod Again
 pub mod Heads
 pub mod Losses
 pub mod New
+pub mod Withdrawals
 pub mod Lookup
 pub mod Owners
 pub mod Held

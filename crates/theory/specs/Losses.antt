@@ -7,19 +7,15 @@ use native.Mathlib.Omega.{arith}
 use lib.Dec.{eqb, ltb}
 use borrow.Author.Tests.{eqb-true, eqb-false, ltb-true}
 use Rattle.model.specs.Lists.{if_then_else_, every}
-use Rattle.model.specs.Identifier.{space}
 use Rattle.model.specs.Table.{Member, tableOf, membersIn, wellFormed}
 use Rattle.model.specs.Ring.{live, hasLive, principals, sound, verdict}
 use Rattle.model.specs.Steps.{without}
 use Rattle.model.specs.Refusals.{memberRefusal, leaveRefusal, cutsOff, tooFewPrincipals}
 use Rattle.model.specs.Calls.{failAnswer, failWords, leaveAnswer}
 use Rattle.model.specs.Run.{Leave, Fail, callAnswer, callWords, accepts}
-use Rattle.laws.specs.Lists.{live-in}
 use Rattle.laws.specs.Accepted.{answer-number, member-accepted}
-use Rattle.laws.specs.Words.{writtenFreed-table}
-use Rattle.laws.specs.Tables.{wellFormed-facts, formed-lists}
-use Rattle.laws.specs.Removed.{removed-formed}
 use Rattle.laws.specs.Verdicts.{verdict-few, verdict-cut-off}
+use Rattle.theory.specs.Left.{lost-table}
 use Rattle.theory.specs.Runs.{fail-good}
 
 -- 6 and 7 are judged on the table without the member: where either applies, that table is not sound
@@ -34,12 +30,6 @@ declined-unsound ws n h l d = go (every (hasLive ms) ms) refl (ltb (principals m
     go false e t q f = sym (verdict-cut-off (without n (tableOf ws)) e)
     go true e true q f = sym (verdict-few (without n (tableOf ws)) (omega (arith, ltb-true (principals ms) (tableOf ws .r + 1) q)))
     go true e false q f = absurd (f refl)
-
--- the table that an accepted loss leaves
-lost-table : (ws : List ℕ) (n : ℕ) → wellFormed ws ≡ true → memberRefusal ws n ≡ 0 → tableOf (failWords ws n) ≡ without n (tableOf ws)
-unfolding failWords
-lost-table ws n h e =
-    rw e (writtenFreed-table (without n (tableOf ws)) ws (formed-lists space _ (removed-formed space n (tableOf ws) (wellFormed-facts ws h .table) (live-in (membersIn ws) n (member-accepted ws n e)))))
 
 -- the calls, accepted, said of their refusals
 
@@ -65,4 +55,4 @@ loss-judged ws n h f = (granted, ungranted)
     granted s a = fail-good ws (record { well-formed = h; is-sound = s }) n (λ q. eqb-true _ 0 (sym (leave-numbers ws n) ∙ a)) .is-sound
 
     ungranted : accepts ws (Leave n) ≡ false → verdict (tableOf (failWords ws n)) ≡ 0
-    ungranted a = ap verdict (lost-table ws n h e) ∙ declined-unsound ws n h (member-accepted ws n e) (λ q. eqb-false _ 0 (sym (leave-numbers ws n) ∙ a) q)
+    ungranted a = ap verdict (lost-table ws n e) ∙ declined-unsound ws n h (member-accepted ws n e) (λ q. eqb-false _ 0 (sym (leave-numbers ws n) ∙ a) q)

@@ -7,18 +7,18 @@ use Prim.Native.Nat.{ℕ, zero, suc, _+_, _≤_, _<_}
 use native.Mathlib.Omega.{arith}
 use lib.ListN.{length, getD, length-map}
 use lib.Dec.{ltb}
-use borrow.Author.Tests.{ltb-true, ltb-false, lt-ltb, le-ltb, leb-true, eq-eqb, not-false}
+use borrow.Author.Tests.{ltb-true, ltb-false, lt-ltb, le-ltb, leb-true, not-false}
 use Rattle.model.specs.Lists.{if_then_else_, every, count, lastOf}
 use Rattle.model.specs.Identifier.{space}
 use Rattle.model.specs.Table.{Member, ids, size, tableOf}
-use Rattle.model.specs.Ring.{live, successor, skips, principal, hasLive, candidateInside, firstAbove, lastBelow, nextUp, nextDown, idealMember, ideal, verdict}
-use Rattle.model.specs.New.{nextUps, newMember, newTable}
+use Rattle.model.specs.Ring.{live, skips, principal, hasLive, candidateInside, firstAbove, lastBelow, nextUp, nextDown, nextUps, ideal, verdict}
+use Rattle.model.specs.New.{newMember, newTable}
 use Rattle.model.specs.Refusals.{noNewTable, newRefusal}
 use Rattle.model.specs.Calls.{newWords}
 use Rattle.laws.specs.Places.{next-ups-length, first-least, last-most}
 use Rattle.laws.specs.Order.{less?, Outside, below, beyond, rest, outside-false}
-use Rattle.laws.specs.Lists.{and-true, true-and, In, here, there, in-cons, in-nil, in-live, every-in, in-every, in-any, count-le, count-all, Above, Rising, above-in, above-rising, rising-true}
-use Rattle.laws.specs.Tables.{Formed, FormedMember, Sound, facts-sound, formed-lists}
+use Rattle.laws.specs.Lists.{and-true, In, here, there, in-cons, in-nil, in-live, every-in, in-every, in-any, count-le, count-all, Above, Rising, above-in, above-rising, rising-true}
+use Rattle.laws.specs.Tables.{Formed, FormedMember, Sound, IdealMember, facts-sound, facts-ideal, formed-lists}
 use Rattle.laws.specs.Words.{written-table}
 use Rattle.laws.specs.Extended.{head-in, last-in}
 use Rattle.laws.specs.Accepted.{none-applies}
@@ -99,18 +99,14 @@ module _ (xs : List ℕ) (some : 1 ≤ length xs) where
   pub down-in : (x : ℕ) → In (nextDown xs x) xs
   down-in x = ⊎-elim (λ i. i) (λ e. rw e (last-in xs some)) (last-below x xs (lastOf xs))
 
-  ups-in : (n x e : ℕ) → In e (nextUps n xs x) → In e xs
+  pub ups-in : (n x e : ℕ) → In e (nextUps n xs x) → In e xs
   ups-in zero x e i = absurd (in-nil i)
   ups-in (suc n) x e i = ⊎-elim (λ p. rw p (up-in x)) (ups-in n (nextUp xs x) e) (in-cons i)
 
 -- the next members up skip none
-ups-skip : (xs : List ℕ) → Rising xs → (n x q : ℕ) → In q xs → skips q x (nextUps n xs x) ≡ false
+pub ups-skip : (xs : List ℕ) → Rising xs → (n x q : ℕ) → In q xs → skips q x (nextUps n xs x) ≡ false
 ups-skip xs a zero x q i = refl
 ups-skip xs a (suc n) x q i = rw (outside-false (up-spares xs a x q i)) (ups-skip xs a n (nextUp xs x) q i)
-
-first-up : (r : ℕ) (xs : List ℕ) (x : ℕ) → 1 ≤ r → successor (newMember r xs x) ≡ nextUp xs x
-first-up zero xs x h = absurd (omega arith)
-first-up (suc r) xs x h = refl
 
 -- what holds of each record of the new table holds of each of its members
 each-new : (P : Member → Type 0) (r : ℕ) (xs : List ℕ) → ((x : ℕ) → In x xs → P (newMember r xs x)) → (m : Member) → In m (newTable r xs .members) → P m
@@ -176,11 +172,11 @@ module _ (r : ℕ) (xs : List ℕ) (ok : Acceptable r xs) where
           let i = head-in (nextUps r xs x) (omega (arith, next-ups-length r xs x, ok .r-low)) in
           in-any (live (newTable r xs .members)) i (in-live (newTable r xs .members) (rw (map-ids r xs xs) (ups-in xs some r x (getD (nextUps r xs x) 0 0) i)))
 
+  -- each list is the next r members up, each predecessor the next down, as the definition has them
   pub new-ideal : ideal (newTable r xs) ≡ true
-  unfolding ideal idealMember
-  new-ideal =
-      let one : (x : ℕ) → In x xs → idealMember xs (newMember r xs x) ≡ true = λ x i. true-and (eq-eqb _ _ (first-up r xs x (ok .r-low))) (eq-eqb (nextDown xs x) (nextDown xs x) refl) in
-      ap (λ (k : List ℕ). every (idealMember k) (newTable r xs .members)) (map-ids r xs xs) ∙ in-every (idealMember xs) (newTable r xs .members) (each-new (λ m. idealMember xs m ≡ true) r xs one)
+  new-ideal = facts-ideal (newTable r xs) (record {
+    each = each-new (IdealMember r (ids (newTable r xs .members))) r xs (λ x i. rw (map-ids r xs xs) (record { list = refl; below = refl }));
+  })
 
 -- an accepted new: the slice is well-formed and sound, and the verdict on it is 2
 pub new-good : (ws : List ℕ) (r : ℕ) (xs : List ℕ) → every (λ x. ltb x space) xs ≡ true → newRefusal (length ws) r xs ≡ 0 → Good (newWords ws r xs) × (verdict (tableOf (newWords ws r xs)) ≡ 2)

@@ -84,7 +84,7 @@ module _ (ws : List ℕ) (g : Good ws) where
   without-good n a =
       writtenFreed-good (without n (tableOf ws)) ws (without-kept space (tableOf ws) k n (a .is-member) (a .none-cut-off) (a .enough-left)) (omega (arith, fits ws g, removed-size n (tableOf ws) (live-in (membersIn ws) n (a .is-member))))
 
-  leave-good : (n : ℕ) → Good (leaveWords ws n)
+  pub leave-good : (n : ℕ) → Good (leaveWords ws n)
   unfolding leaveWords
   leave-good n = afterwards-has Good (leaveRefusal ws n) (writtenFreed (without n (tableOf ws)) ws) ws (λ e. without-good n (leave-accepted ws n e)) g
 

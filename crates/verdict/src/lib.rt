@@ -1,11 +1,10 @@
-// The verdict on a table, and what it looks at besides the lists: the pending candidates, and whether the table is ideal. For the crates above.
+// The verdict on a table, and the pending candidates, which it looks at. For the crates above.
 ghost use mathlib.Core.Path.{_≡_};
-ghost use mathlib.Core.Bool.{true};
 ghost use Prim.Native.Nat.{ℕ, _*_, _≤_};
 ghost use lib.ListN.{length};
-ghost use Rattle.model.specs.Lists.{every, rising};
-ghost use Rattle.model.specs.Table.{recordSize, memberOf, membersOf, membersIn, tableOf, ids};
-ghost use Rattle.model.specs.Ring.{candidateInside, idealMember, principals, verdict};
+ghost use Rattle.model.specs.Lists.{every};
+ghost use Rattle.model.specs.Table.{recordSize, memberOf, membersOf, membersIn, tableOf};
+ghost use Rattle.model.specs.Ring.{candidateInside, principals, verdict};
 ghost use Rattle.table.specs.Formed.{Formed};
 ghost use Rattle.ring.specs.Places.{BestPlaces};
 
@@ -39,38 +38,6 @@ pub fn candidates_inside(s: &[u32], r: usize, n: usize) -> bool
     true
 }
 
-// Are the successor and the predecessor of each of the n records, by rising identifier, the next up and down, round the end?
-pub fn is_ideal(s: &[u32], r: usize, n: usize) -> bool
-    requires { ⌜ (1 ≤ r) × (r ≤ 8) × (n ≤ 256) × (n * recordSize r ≤ length (now s)) ⌝ }
-    requires { ⌜ rising (ids (membersOf r n (now s))) ≡ true ⌝ }
-    ensures { λ b. ⌜ b ≡ every (idealMember (ids (membersOf r n (now (s .entry))))) (membersOf r n (now (s .entry))) ⌝ }
-{
-    if n == 0 {
-        return true;
-    }
-    let w = words::width(r);
-    let last = (n - 1) * w;
-    let lowest = s[0];
-    let mut below = s[last];
-    let mut p = s;
-    let mut left = n;
-    while 1 < left {
-        if p[words::LIST] != p[w] {
-            return false;
-        }
-        if p[1] != below {
-            return false;
-        }
-        below = p[0];
-        p = &p[w..];
-        left -= 1;
-    }
-    if p[words::LIST] != lowest {
-        return false;
-    }
-    p[1] == below
-}
-
 // The verdict on a table with so many principals: 0 not sound, 1 sound, 2 sound and ideal.
 pub fn verdict_of(t: &[u32], best: &[u16; 256], count: usize) -> u32
     requires { ⌜ Formed (now t) ⌝ }
@@ -84,7 +51,7 @@ pub fn verdict_of(t: &[u32], best: &[u16; 256], count: usize) -> u32
         if r < count {
             let s = words::records_of(t);
             if candidates_inside(s, r, n) {
-                if is_ideal(s, r, n) {
+                if ideal::is_ideal(t) {
                     return 2;
                 }
                 return 1;

@@ -4,7 +4,7 @@ use mathlib.Core.Path.{_≡_, refl, _∙_}
 use native.Mathlib.Omega.{arith}
 use lib.ListN.{length, getD, length-set}
 use lib.Seq.{sets}
-use Rattle.model.specs.New.{nextUps}
+use Rattle.model.specs.Ring.{nextUps}
 use Rattle.new_member.proofs.Members.{ups-on, ups-done, record-stored}
 use borrow.Author.Needs.{needs}
 use Rattle.new_member.proofs.write_round.Statement.{statement}

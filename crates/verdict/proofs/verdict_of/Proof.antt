@@ -7,8 +7,8 @@ use native.Mathlib.Omega.{arith}
 use borrow.Author.Needs.{needs}
 use lib.ListN.{getD, length-drop}
 use Rattle.model.specs.Lists.{every}
-use Rattle.model.specs.Table.{membersOf, membersIn, tableOf, ids}
-use Rattle.model.specs.Ring.{hasLive, candidateInside, principals, idealMember, ideal}
+use Rattle.model.specs.Table.{membersOf, membersIn, tableOf}
+use Rattle.model.specs.Ring.{hasLive, candidateInside, principals, ideal}
 use Rattle.laws.specs.Verdicts.{verdict-ideal, verdict-sound, verdict-outside, verdict-few, verdict-cut-off}
 use Rattle.verdict.proofs.verdict_of.Statement.{statement}
 use Rattle.verdict.proofs.verdict_of.Tie as tie
@@ -32,17 +32,10 @@ checked c =
     c .candidates-inside .ensures ∙ ap (λ (l : List ℕ). every candidateInside (membersOf (getD ws 0 0) (getD ws 1 0) l)) (c .before .records-of .ensures)
 
 judged : (c : tie.After-is-ideal) → c .is-ideal .result ≡ ideal (tableOf (start (c .before .before .before) .args .t .now))
-unfolding ideal
-judged c =
-    let p = c .before .before .before in
-    let ws = start p .args .t .now in
-    c .is-ideal .ensures ∙ ap (λ (l : List ℕ). every (idealMember (ids (membersOf (getD ws 0 0) (getD ws 1 0) l))) (membersOf (getD ws 0 0) (getD ws 1 0) l)) (p .records-of .ensures)
+judged c = c .is-ideal .ensures
 
 is-ideal-requires : tie.Need-is-ideal-requires
-is-ideal-requires c κs =
-    let p = c .before .before in
-    let f = start p .pre .0 in
-    ((f .r-low, f .r-high, f .few, rw (p .records-of .ensures, length-drop) (omega (arith, f .fits))), rw (p .records-of .ensures) (f .rises))
+is-ideal-requires c κs = start (c .before .before) .pre .0
 
 returns : tie.Need-returns
 returns c =
