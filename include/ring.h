@@ -121,7 +121,9 @@ struct ring_answer ring_rectify(uint32_t *table, size_t words, uint32_t n, uint3
 /* Loss of n: its record goes, those above move down, the r + 4 words freed become 0. values: member count afterwards. 1, 3. */
 struct ring_answer ring_fail(uint32_t *table, size_t words, uint32_t n);
 
-/* Withdrawal of n: as its loss, but refused by 6 or 7, both judged on the table as it would be afterwards. 1, 3, 6, 7. */
+/* Withdrawal of n: as its loss, but refused by 6 or 7, both judged on the table as it would be afterwards. 1, 3, 6, 7.
+   From a table with verdict 2, k withdrawals of different members, one after the other, in any order and with nothing else written between
+   them, are all granted, if k is at most r - 1 and at most members - r - 1. */
 struct ring_answer ring_leave(uint32_t *table, size_t words, uint32_t n);
 
 /* Find key k from the member n. values: owner, the member it was found at, moves made. Nothing is written. 1, 3, 8. */
@@ -140,7 +142,8 @@ struct ring_runs ring_held(const uint32_t *table, size_t words, uint32_t n, cons
    have a yes as ring_audit counts principals. Nothing is written. 1, 3. */
 struct ring_answer ring_principal(const uint32_t *table, size_t words, uint32_t n);
 
-/* values: members, principals, ring members, verdict (0 not sound, 1 sound, 2 sound and ideal). Nothing is written. 1. */
+/* values: members, principals, ring members, verdict (0 not sound, 1 sound, 2 sound and ideal). Ideal: each list is the next r members up, in
+   order, and each predecessor the next member down, round the end. Nothing is written. 1. */
 struct ring_answer ring_audit(const uint32_t *table, size_t words);
 
 /* The audit, and one finding a member, in order; findings past the members stay. values: as ring_audit. 1, 10. */

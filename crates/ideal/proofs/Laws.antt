@@ -1,21 +1,22 @@
 -- The next members up and down by place in the words of a table; a list compared with the next up entry by entry; one member, and all of them. Assumes nothing.
-use Prim.Native.Nat.{ℕ, suc, _+_, _*_, _-_, _≤_, _<_}
+use Prim.Native.Nat.{ℕ, zero, suc, _+_, _*_, _-_, _≤_, _<_}
 use mathlib.Core.Path.{_≡_, refl, sym, ap, _∙_}
 use mathlib.Core.Bool.{Bool, true, false, _&&_, and-true, and-false}
 use mathlib.Core.List.{List, [], _∷_}
+use native.Mathlib.Nat.{add-mul}
 use native.Mathlib.Omega.{arith}
 use lib.Dec.{eqb}
-use lib.ListN.{length, getD, drop, drop-of-length-le}
-use lib.Seq.{drop-cons, getD-drop}
+use lib.ListN.{length, getD, take, drop, length-drop, drop-of-length-le}
+use lib.Seq.{drop-cons, drop-drop, take-append-le, getD-drop}
 use borrow.Author.Tests.{eq-eqb, ne-eqb}
 use Rattle.model.specs.Lists.{every, same}
-use Rattle.model.specs.Table.{Member, headerSize, recordSize, tableOf, membersIn, ids}
+use Rattle.model.specs.Table.{Member, headerSize, recordSize, tableOf, membersOf, membersIn, ids}
 use Rattle.model.specs.Ring.{nobody, nextUp, nextDown, nextUps, idealMember, ideal}
 use Rattle.laws.specs.Lists.{Rising, rising-true}
-use Rattle.laws.specs.Places.{next-up-place, next-up-end, next-down-place, next-down-start}
+use Rattle.laws.specs.Places.{next-up-place, next-up-end, next-down-place, next-down-start, next-ups-place}
 use Rattle.laws.specs.Words.{members-length}
 use Rattle.table.specs.Formed.{Formed}
-use Rattle.table.proofs.Members.{id-of, ids-count, whole}
+use Rattle.table.proofs.Members.{span, members-take, members-drop, id-of, ids-count, whole}
 
 -- The neighbours of the member at place k
 
@@ -35,26 +36,65 @@ module _ (ws : List ℕ) (f : Formed ws) (k : ℕ) (h : k < getD ws 1 0) where
   pub below-round : k < 1 → getD (ids (membersIn ws)) (getD ws 1 0 - 1) 0 ≡ nextDown (ids (membersIn ws)) (getD (ids (membersIn ws)) k 0)
   below-round l = let e : k ≡ 0 = omega arith in rw (e, next-down-start (ids (membersIn ws)) rise, ids-count ws)
 
--- A list p against the next up from x, of which the first is y
+-- A list p against a list l that starts with y, entry by entry
 
-module _ (xs p : List ℕ) (x y : ℕ) (up : y ≡ nextUp xs x) where
-  pub differs : 0 < length p → (getD p 0 0 ≡ y → ⊥) → false ≡ same p (nextUps (length p) xs x)
-  differs h n = go p h n
+module _ (p k l : List ℕ) (y : ℕ) (first : l ≡ y ∷ k) (some : 0 < length p) where
+  pub differs : (getD p 0 0 ≡ y → ⊥) → false ≡ same p l
+  differs n = rw first (go p some n)
     where
-      go : (l : List ℕ) → 0 < length l → (getD l 0 0 ≡ y → ⊥) → false ≡ same l (nextUps (length l) xs x)
+      go : (q : List ℕ) → 0 < length q → (getD q 0 0 ≡ y → ⊥) → false ≡ same q (y ∷ k)
       go [] h n = absurd (omega arith)
-      go (u ∷ l) h n = rw (← up, ne-eqb u y n)
+      go (u ∷ q) h n = rw (ne-eqb u y n)
 
-  pub agrees : 0 < length p → getD p 0 0 ≡ y → same (drop 1 p) (nextUps (length (drop 1 p)) xs y) ≡ same p (nextUps (length p) xs x)
-  agrees h e = go p h e
+  pub agrees : getD p 0 0 ≡ y → same (drop 1 p) k ≡ same p l
+  agrees e = rw first (go p some e)
     where
-      go : (l : List ℕ) → 0 < length l → getD l 0 0 ≡ y → same (drop 1 l) (nextUps (length (drop 1 l)) xs y) ≡ same l (nextUps (length l) xs x)
+      go : (q : List ℕ) → 0 < length q → getD q 0 0 ≡ y → same (drop 1 q) k ≡ same q (y ∷ k)
       go [] h e = absurd (omega arith)
-      go (u ∷ l) h e = rw (← up, eq-eqb u y e)
+      go (u ∷ q) h e = rw (eq-eqb u y e)
 
-pub nothing-left : (xs p : List ℕ) (x : ℕ) → length p ≤ 0 → true ≡ same p (nextUps (length p) xs x)
-nothing-left xs [] x h = refl
-nothing-left xs (u ∷ p) x h = absurd (omega arith)
+-- where p has no entry, against as many of any
+pub none-differs : (p : List ℕ) (f : ℕ → List ℕ) → f 0 ≡ [] → length p ≤ 0 → true ≡ same p (f (length p))
+none-differs [] f e h = rw e
+none-differs (u ∷ p) f e h = absurd (omega arith)
+
+-- as many as p has entries, of the next up from x, and of the identifiers of the records at the front
+
+pub first-up : (xs p : List ℕ) (x y : ℕ) → y ≡ nextUp xs x → 0 < length p → nextUps (length p) xs x ≡ y ∷ nextUps (length (drop 1 p)) xs y
+first-up xs [] x y e h = absurd (omega arith)
+first-up xs (u ∷ p) x y e h = rw e
+
+pub first-record : (r : ℕ) (p ws : List ℕ) → 0 < length p → ids (membersOf r (length p) ws) ≡ getD ws 0 0 ∷ ids (membersOf r (length (drop 1 p)) (drop (recordSize r) ws))
+first-record r [] ws h = absurd (omega arith)
+first-record r (u ∷ p) ws h = refl
+
+-- The members above place k, where there are as many as a list has entries
+
+ids-take : (n : ℕ) (ms : List Member) → ids (take n ms) ≡ take n (ids ms)
+ids-take zero ms = refl
+ids-take (suc n) [] = refl
+ids-take (suc n) (m ∷ ms) = ap (λ (l : List ℕ). m .id ∷ l) (ids-take n ms)
+
+ids-drop : (n : ℕ) (ms : List Member) → ids (drop n ms) ≡ drop n (ids ms)
+ids-drop zero ms = refl
+ids-drop (suc n) [] = refl
+ids-drop (suc n) (m ∷ ms) = ids-drop n ms
+
+module _ (ws : List ℕ) (f : Formed ws) (k at n : ℕ) (few : k + 1 + n ≤ getD ws 1 0) (e : at ≡ headerSize + (k + 1) * recordSize (getD ws 0 0)) where
+  pub ahead : ids (membersOf (getD ws 0 0) n (drop at ws)) ≡ nextUps n (ids (membersIn ws)) (getD (ids (membersIn ws)) k 0)
+  ahead =
+      let r : ℕ = getD ws 0 0 in
+      let c : ℕ = getD ws 1 0 in
+      let s : k + 1 ≡ suc k = omega arith in
+      let l = ids-count ws in
+      rw (e, ← drop-drop ((k + 1) * recordSize r) headerSize ws, ← members-take r n (c - (k + 1)) (drop ((k + 1) * recordSize r) (drop headerSize ws)) (omega arith), ← members-drop r (k + 1) c (drop headerSize ws) (omega arith))
+      (ids-take n _ ∙ ap (take n) (ids-drop (k + 1) _) ∙ rw (s, next-ups-place (ids (membersIn ws)) (rising-true (ids (membersIn ws)) (f .rises)) n k (omega arith) (omega arith), take-append-le n (drop (suc k) (ids (membersIn ws))) (ids (membersIn ws)) (simp length-drop (omega arith))))
+
+  pub ahead-starts : at ≤ length ws
+  ahead-starts = let b = span (k + 1) (getD ws 1 0) (recordSize (getD ws 0 0)) (omega arith) in omega (arith, f .fits)
+
+  pub ahead-fits : n * recordSize (getD ws 0 0) ≤ length (drop at ws)
+  ahead-fits = let b = span (k + 1 + n) (getD ws 1 0) (recordSize (getD ws 0 0)) few in let d = add-mul (k + 1) n (recordSize (getD ws 0 0)) in simp length-drop (omega (arith, f .fits))
 
 -- The member at place k, whose record starts at at
 

@@ -1,10 +1,10 @@
 // Is a table ideal: each list the next r members up, in order, each predecessor the next member down, round the end. For `verdict`; each function asks
 // for a well-formed table.
 ghost use mathlib.Core.Path.{_≡_};
-ghost use Prim.Native.Nat.{_<_};
+ghost use Prim.Native.Nat.{_*_, _≤_, _<_};
 ghost use lib.ListN.{length, getD};
 ghost use Rattle.model.specs.Lists.{same};
-ghost use Rattle.model.specs.Table.{membersIn, tableOf, ids};
+ghost use Rattle.model.specs.Table.{recordSize, membersOf, membersIn, tableOf, ids};
 ghost use Rattle.model.specs.Ring.{nobody, nextUp, nextDown, nextUps, idealMember, ideal};
 ghost use Rattle.table.specs.Formed.{Formed};
 
@@ -35,22 +35,56 @@ fn id_below(t: &[u32], k: usize) -> u32
     ring::id_at(t, k - 1)
 }
 
+// Are the entries of a list, one by one, the identifiers of the records at the front, as many as there are entries?
+fn names_front(s: &[u32], r: usize, l: &[u32]) -> bool
+    requires { ⌜ (r ≤ 8) × (length (now l) * recordSize r ≤ length (now s)) ⌝ }
+    ensures { λ b. ⌜ b ≡ same (now (l .entry)) (ids (membersOf r (length (now (l .entry))) (now (s .entry)))) ⌝ }
+{
+    let w = words::width(r);
+    let mut p = l;
+    let mut q = s;
+    while 0 < p.len() {
+        if p[0] != q[0] {
+            return false;
+        }
+        p = &p[1..];
+        q = &q[w..];
+    }
+    true
+}
+
 // Are the entries of a list, one by one, the next members up from the one at place k, round the end?
+fn names_round(t: &[u32], k: usize, l: &[u32]) -> bool
+    requires { ⌜ Formed (now t) ⌝ }
+    requires { ⌜ k < getD (now t) 1 0 ⌝ }
+    ensures { λ b. ⌜ b ≡ same (now (l .entry)) (nextUps (length (now (l .entry))) (ids (membersIn (now (t .entry)))) (getD (ids (membersIn (now (t .entry)))) k 0)) ⌝ }
+{
+    let mut rest = l;
+    let mut j = k;
+    while 0 < rest.len() {
+        j = place_above(t, j);
+        if rest[0] != ring::id_at(t, j) {
+            return false;
+        }
+        rest = &rest[1..];
+    }
+    true
+}
+
+// The same; where as many members stand above place k, they are the records that follow its own.
 fn names_next(t: &[u32], k: usize, l: &[u32]) -> bool
     requires { ⌜ Formed (now t) ⌝ }
     requires { ⌜ k < getD (now t) 1 0 ⌝ }
     ensures { λ b. ⌜ b ≡ same (now (l .entry)) (nextUps (length (now (l .entry))) (ids (membersIn (now (t .entry)))) (getD (ids (membersIn (now (t .entry)))) k 0)) ⌝ }
 {
-    let mut p = l;
-    let mut j = k;
-    while 0 < p.len() {
-        j = place_above(t, j);
-        if p[0] != ring::id_at(t, j) {
-            return false;
-        }
-        p = &p[1..];
+    let r = t[0] as usize;
+    let n = t[1] as usize;
+    let above = k + 1;
+    if l.len() <= n - above {
+        let at = words::offset(r, above);
+        return names_front(&t[at..], r, l);
     }
-    true
+    names_round(t, k, l)
 }
 
 // Is the member at place k ideal: its predecessor and its whole list?

@@ -1,20 +1,16 @@
 -- Bytes: a number and its bytes, a member and the contents of its field, an image and its table, each both ways. Assumes nothing.
 use mathlib.Core.Path.{_≡_, refl, sym, ap, ap₂, _∙_}
 use mathlib.Core.Logic.{⊎-elim}
-use mathlib.Core.Bool.{true, false, false≢true}
 use mathlib.Core.List.{List, [], _∷_, _++_, append-nil, append-assoc}
 use Prim.Native.Nat.{ℕ, zero, suc, _+_, _*_, _-_, _/_, _%_, _^_, _≤_, _<_}
 use native.Mathlib.Nat.{pow-suc, pow-succ', mul-assoc}
 use native.Mathlib.Omega.{arith}
-use lib.Dec.{eqb}
 use lib.ListN.{length, getD, take, drop, length-append, length-drop}
 use lib.Seq.{length-take-le, take-add, drop-at, drop-drop, getD-drop}
-use borrow.Author.Tests.{eqb-true, eq-eqb}
-use Rattle.model.specs.Lists.{same}
 use Rattle.model.specs.Identifier.{space}
 use Rattle.model.specs.Table.{Member, Table, recordSize, recordOf}
 use Rattle.model.specs.Image.{bytesOf, numberFrom, numberAt, words4, field, memberField, memberFields, imageOf, fieldHead, headerLength, memberLength, numbersAt, fieldMember, fieldMembers, tableIn}
-use Rattle.laws.specs.Lists.{In, here, there, in-cons, in-nil, and-true, true-and}
+use Rattle.laws.specs.Lists.{In, here, there, in-cons, in-nil}
 use Rattle.laws.specs.Parts.{drop-take, part-of-part}
 use Rattle.laws.specs.Words.{Lengths}
 use Rattle.laws.specs.Tables.{FormedMember, Formed}

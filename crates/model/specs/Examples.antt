@@ -141,24 +141,17 @@ pub verdicts : map (λ c. c .computed) verdictCases ≡ map (λ c. c .expected) 
 unfolding verdict sound ideal idealMember candidateInside between
 verdicts = refl
 
--- a new ring
-abbrev pub ringOf : ℕ → List ℕ → List ℕ
-ringOf r xs = newWords (replicate 60 0) r xs
+-- a new ring with lists of two
+abbrev pub ringOf : List ℕ → List ℕ
+ringOf xs = newWords (replicate 40 0) 2 xs
 
--- neighbours withdraw one after the other: with r = 3 two of seven are granted it, the third is 6; with r = 2 the second of six is 6; and of four
--- members with r = 2 one is granted it, and the next, which would leave two, is 7
+-- of five members one is granted its withdrawal, and the next of them, its neighbour, is 6: two are r, one too many; of four members one is granted
+-- it, and another, which would leave two, is 7
 abbrev pub withdrawalCases : List Case
 withdrawalCases =
-    let three = ringOf 3 (10 ∷ 20 ∷ 30 ∷ 40 ∷ 50 ∷ 60 ∷ 70 ∷ []) in
-    let six = ringOf 2 (10 ∷ 20 ∷ 30 ∷ 40 ∷ 50 ∷ 60 ∷ []) in
-    let four = ringOf 2 (10 ∷ 20 ∷ 30 ∷ 40 ∷ []) in
-    (leaveAnswer three 20 .values gives 6 ∷ []) ∷
-    (leaveAnswer (leaveWords three 20) 30 .values gives 5 ∷ []) ∷
-    (leaveAnswer (leaveWords (leaveWords three 20) 30) 40 .number ∷ [] gives 6 ∷ []) ∷
-    (leaveAnswer six 20 .values gives 5 ∷ []) ∷
-    (leaveAnswer (leaveWords six 20) 30 .number ∷ [] gives 6 ∷ []) ∷
-    (leaveAnswer four 10 .values gives 3 ∷ []) ∷
-    (leaveAnswer (leaveWords four 10) 30 .number ∷ [] gives 7 ∷ []) ∷ []
+    (leaveAnswer (ringOf (10 ∷ 20 ∷ 30 ∷ 40 ∷ 50 ∷ [])) 20 .values gives 4 ∷ []) ∷
+    (leaveAnswer (leaveWords (ringOf (10 ∷ 20 ∷ 30 ∷ 40 ∷ 50 ∷ [])) 20) 30 .number ∷ [] gives 6 ∷ []) ∷
+    (leaveAnswer (leaveWords (ringOf (10 ∷ 20 ∷ 30 ∷ 40 ∷ [])) 10) 30 .number ∷ [] gives 7 ∷ []) ∷ []
 
 pub withdrawals : map (λ c. c .computed) withdrawalCases ≡ map (λ c. c .expected) withdrawalCases
 unfolding leaveAnswer leaveWords leaveRefusal cutsOff tooFewPrincipals between newWords newRefusal noNewTable wellFormed formed formedMember

@@ -1,22 +1,21 @@
 -- What verdict 2 allows: k withdrawals of different members, one after the other, are all granted, if k is at most r - 1 and at most members - r - 1.
-use mathlib.Core.Path.{_≡_, refl, sym, ap, _∙_}
-use mathlib.Core.Logic.{_⊎_, inl, inr}
+use mathlib.Core.Path.{_≡_, refl, sym, ap}
 use mathlib.Core.Bool.{Bool, true, false, not}
 use mathlib.Core.List.{List, [], _∷_, _++_, map}
-use Prim.Native.Nat.{ℕ, zero, suc, _+_, _-_, _≤_, _<_}
+use Prim.Native.Nat.{ℕ, suc, _+_, _-_, _≤_, _<_}
 use native.Mathlib.Omega.{arith}
 use lib.ListN.{length, getD}
 use borrow.Author.Tests.{le-ltb}
 use Rattle.model.specs.Lists.{if_then_else_, every, count}
 use Rattle.model.specs.Identifier.{space}
 use Rattle.model.specs.Table.{Member, Table, tableOf, membersIn, ids, wellFormed}
-use Rattle.model.specs.Ring.{live, skips, principal, principals, hasLive, sound, ideal, verdict, nextUps}
+use Rattle.model.specs.Ring.{live, skips, principal, principals, hasLive, sound, ideal, verdict}
 use Rattle.model.specs.Answer.{accepted}
 use Rattle.model.specs.Steps.{without, removed}
 use Rattle.model.specs.Refusals.{cutsOff, tooFewPrincipals, leaveRefusal}
 use Rattle.model.specs.Calls.{leaveAnswer, leaveWords}
-use Rattle.model.specs.Run.{Call, Leave, callWords, run}
-use Rattle.laws.specs.Lists.{In, here, there, in-cons, in-nil, NoDup, count-le, count-all, count-length, count-but-one, count-any, every-in, in-every, rising-nodup, length-ids, named-in, in-ids, live-in, in-live}
+use Rattle.model.specs.Run.{Leave, callWords, run}
+use Rattle.laws.specs.Lists.{In, here, there, NoDup, count-le, count-all, count-length, count-but-one, count-any, every-in, in-every, rising-nodup, length-ids, named-in, in-ids, live-in, in-live}
 use Rattle.laws.specs.Tables.{Formed, Sound, Ideal, wellFormed-facts, sound-facts, ideal-facts}
 use Rattle.laws.specs.Removed.{removed-from, removed-ids, removed-keeps, removed-length}
 use Rattle.theory.specs.Claim.{InRingOrder}

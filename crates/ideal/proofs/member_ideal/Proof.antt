@@ -1,6 +1,5 @@
 -- `member_ideal` meets its contract: the predecessor first, then the whole list, a part of the table. Assumes nothing.
 use Prim.Native.Nat.{_+_, _≤_}
-use mathlib.Core.Path.{_≡_}
 use native.Mathlib.Omega.{arith}
 use borrow.Author.Needs.{needs}
 use lib.ListN.{length, getD, length-take, length-drop}
