@@ -63,6 +63,7 @@ pub const CALLS: &[(&str, Call)] = &[
     ("leave-accepted", Call::LeaveOk),
     ("lookup-255-moves", Call::Lookup),
     ("audit", Call::Audit(Lists::Settled)),
+    ("audit-late", Call::Audit(Lists::Late)),
     ("audit-half", Call::Audit(Lists::Half)),
     ("audit-random", Call::Audit(Lists::Random)),
     ("alike", Call::Alike),
@@ -203,6 +204,7 @@ impl Case {
             }
             Call::Audit(lists) | Call::AuditEarly(lists) => match lists {
                 Lists::Settled => answer(0, [n, n, n, 2]),
+                Lists::Late => answer(0, [n, n, n, 1]),
                 Lists::Half => answer(0, [n, n / 2, n / 2, 1]),
                 Lists::Random => same::audit(&table),
             },

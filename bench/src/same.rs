@@ -321,15 +321,32 @@ impl<'a> Table<'a> {
         }
     }
 
+    /// Is the list of the member at place k the next members up, round the end? Where enough stand above it, they are the records
+    /// after its own.
+    #[inline]
+    fn names_next(&self, k: usize, list: &[u32]) -> bool {
+        if k + list.len() < self.members {
+            let next = self.records().skip(k + 1);
+            return list.iter().zip(next).all(|(&entry, next)| entry == next[0]);
+        }
+        let mut place = k;
+        list.iter().all(|&entry| {
+            place += 1;
+            if place == self.members {
+                place = 0;
+            }
+            entry == self.id(place)
+        })
+    }
+
+    /// Each predecessor is the next member down, each list the next r members up.
     fn is_ideal(&self) -> bool {
         let Some(last) = self.members.checked_sub(1) else {
             return true;
         };
-        let (lowest, mut below) = (self.id(0), self.id(last));
-        let mut records = self.records().peekable();
-        while let Some(record) = records.next() {
-            let above = records.peek().map_or(lowest, |next| next[0]);
-            if record[4] != above || record[1] != below {
+        let mut below = self.id(last);
+        for (k, record) in self.records().enumerate() {
+            if record[1] != below || !self.names_next(k, &record[4..]) {
                 return false;
             }
             below = record[0];

@@ -1,4 +1,4 @@
-//! The tables that calls are measured on: settled, half settled, or with random lists.
+//! The tables that calls are measured on: settled, settled but for one entry, half settled, or with random lists.
 
 use crate::same::{self, answer};
 
@@ -10,6 +10,8 @@ pub const WORDS: usize = 3075;
 pub enum Lists {
     /// Each the next r members.
     Settled,
+    /// The same but for the last entry of the highest member, which is dead and skips nobody.
+    Late,
     /// Each second member has joined by the one below it, and no step was made since: all lists skip the joined ones.
     Half,
     /// Each r different members, not its own, by a fixed generator.
@@ -38,6 +40,10 @@ pub fn table(lists: Lists, r: u32, ids: &[u32]) -> Vec<u32> {
     };
     match lists {
         Lists::Settled => make(ids),
+        Lists::Late => {
+            make(ids);
+            table[2 + ids.len() * (r as usize + 4)] -= 1;
+        }
         Lists::Half => {
             let old: Vec<u32> = ids.iter().copied().step_by(2).collect();
             make(&old);

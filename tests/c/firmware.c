@@ -1,7 +1,7 @@
 /* A firmware main loop in small: it starts a ring, lets shelves join, stabilize and leave, tries a join again that was declined behind a dead
-   neighbour, saves and restores the table, looks keys up, and asks which keys a shelf holds and whether it is a principal. Every call of
-   include/ring.h is used, and each answer is compared with what documents 01 and 02 say. Exit status 0, and 'firmware: N checks' on standard
-   output. */
+   neighbour, pulls neighbouring shelves from a ring with verdict 2, saves and restores the table, looks keys up, and asks which keys a shelf
+   holds and whether it is a principal. Every call of include/ring.h is used, and each answer is compared with what documents 01 and 02 say.
+   Exit status 0, and 'firmware: N checks' on standard output. */
 
 #include "ring.h"
 #include <stdio.h>
@@ -137,7 +137,10 @@ int main(void)
     expect("rectify 30", ring_rectify(table, words, 30, 25), 0, 1, 1, 0, 0, 0);
     expect("stabilize 20", ring_stabilize(table, words, 20), 0, 2, 1, 25, 0, 0);
     expect("stabilize 20 again", ring_stabilize(table, words, 20), 0, 2, 2, 25, 0, 0);
-    expect("audit", ring_audit(table, words), 0, 4, 5, 4, 5, 2);
+    expect("audit: the second entry of 10 is still 30", ring_audit(table, words), 0, 4, 5, 4, 5, 1);
+    memcpy(other, table, sizeof other);
+    expect("a step of 10", ring_stabilize(other, words, 10), 0, 2, 2, 20, 0, 0);
+    expect("brings it up to date", ring_audit(other, words), 0, 4, 5, 5, 5, 2);
     expect("the list of 10, with 20 and 30, skips 25", ring_principal(table, words, 25), 0, 2, 0, 2, 0, 0);
     expect("no list skips 20", ring_principal(table, words, 20), 0, 2, 1, 10, 0, 0);
     expect_true("four principals", principals(table, words) == 4);
@@ -149,17 +152,59 @@ int main(void)
     expect("stabilize 40", ring_stabilize(table, words, 40), 0, 1, 0, 0, 0, 0);
     expect("lookup", ring_lookup(table, words, 30, 15), 0, 3, 20, 40, 1, 0);
 
-    /* Churn: shelves join one after the other, and the ring settles; two rounds more bring the second entries up to date. */
+    /* Churn: shelves join one after the other, and the ring settles. Verdict 2 says that all entries are up to date, the second ones too. */
     for (i = 0; i < 100; i++)
         joined += ring_join(table, words, 1000 + 7 * (uint32_t)i, i == 0 ? 40 : 1000 + 7 * ((uint32_t)i - 1)).number == 0;
     expect_true("each of 100 joins is accepted", joined == 100);
     for (i = 0; i < 1000 && ring_audit(table, words).values[3] != 2; i++)
         for (at = 0; at < table[1]; at++) late += round_of(table, words, table[RING_TABLE_WORDS(2, at)]) == 0;
-    for (i = 0; i < 2; i++)
-        for (at = 0; at < table[1]; at++) late += round_of(table, words, table[RING_TABLE_WORDS(2, at)]) == 0;
     expect_true("done within r + 1 steps", late == 0);
     expect("settled", ring_audit(table, words), 0, 4, 104, 104, 104, 2);
     expect_true("all are principals", principals(table, words) == 104);
+
+    /* Verdict 2 lets any r - 1 shelves go, one after the other. While the second entry of 10 is the lost 30, first entries and predecessors are
+       right, and yet 20 may not go; a step of 10 ends that. */
+    {
+        const uint32_t six[] = {10, 20, 30, 40, 50, 60};
+        uint32_t gone;
+        expect("six shelves", ring_new(other, words, 2, six, 6), 0, 1, 6, 0, 0, 0);
+        expect("ideal", ring_audit(other, words), 0, 4, 6, 6, 6, 2);
+        expect("the loss of 30", ring_fail(other, words, 30), 0, 1, 5, 0, 0, 0);
+        expect_true("20 is done", round_of(other, words, 20) == 3);
+        expect("only a second entry is old", ring_audit(other, words), 0, 4, 5, 5, 5, 1);
+        memcpy(kept, other, sizeof kept);
+        expect("10 would be cut off", ring_leave(other, words, 20), 6, 0, 0, 0, 0, 0);
+        expect_true("that writes nothing", memcmp(kept, other, sizeof kept) == 0);
+        expect_true("10 is done", round_of(other, words, 10) == 1);
+        expect("ideal then", ring_audit(other, words), 0, 4, 5, 5, 5, 2);
+        expect("20 may go", ring_leave(other, words, 20), 0, 1, 4, 0, 0, 0);
+        expect("40 no longer", ring_leave(other, words, 40), 6, 0, 0, 0, 0, 0);
+        expect("sound", ring_audit(other, words), 0, 4, 4, 4, 4, 1);
+
+        /* Two neighbours of r = 3 round the end, and the third; of five shelves one, since four must be left. */
+        expect("six of r = 3", ring_new(other, words, 3, six, 6), 0, 1, 6, 0, 0, 0);
+        expect("60 goes", ring_leave(other, words, 60), 0, 1, 5, 0, 0, 0);
+        expect("10 goes", ring_leave(other, words, 10), 0, 1, 4, 0, 0, 0);
+        expect("20 is the third", ring_leave(other, words, 20), 6, 0, 0, 0, 0, 0);
+        expect("30 leaves too few", ring_leave(other, words, 30), 7, 0, 0, 0, 0, 0);
+        expect("sound without them", ring_audit(other, words), 0, 4, 4, 4, 4, 1);
+        expect("five of r = 3", ring_new(other, words, 3, six, 5), 0, 1, 5, 0, 0, 0);
+        expect("30 goes", ring_leave(other, words, 30), 0, 1, 4, 0, 0, 0);
+        expect("no other", ring_leave(other, words, 50), 7, 0, 0, 0, 0, 0);
+
+        /* Seven neighbours of a full ring of r = 8, and the eighth; then a full ring in which only the highest shelf's last entry is old. */
+        for (i = 0; i < 256; i++) many[i] = 4 * (uint32_t)i;
+        expect("a full ring of r = 8", ring_new(other, words, 8, many, 256), 0, 1, 256, 0, 0, 0);
+        for (gone = 0; gone < 7; gone++)
+            if (ring_leave(other, words, many[(252 + gone) % 256]).values[0] != 255 - gone) break;
+        expect_true("seven neighbours go", gone == 7);
+        expect("the eighth would cut one off", ring_leave(other, words, 12), 6, 0, 0, 0, 0, 0);
+        expect("the full ring is sound", ring_audit(other, words), 0, 4, 249, 249, 249, 1);
+        ring_new(other, words, 8, many, 256);
+        expect("a full ring is ideal", ring_audit(other, words), 0, 4, 256, 256, 256, 2);
+        other[RING_TABLE_WORDS(8, 256) - 1] = 27;
+        expect("but for its last entry", ring_audit(other, words), 0, 4, 256, 256, 256, 1);
+    }
 
     /* Saved, looked at field by field, and restored. */
     a = ring_image_write(table, words, image, sizeof image);

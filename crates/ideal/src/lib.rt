@@ -1,5 +1,5 @@
-// Is a table ideal: each list the next r members up, in order, each predecessor the next member down, round the end. For `verdict`; each function asks
-// for a well-formed table.
+// Is a well-formed table ideal: each list the next r members up, in order, each predecessor the next member down, round the end. For `verdict`; a caller
+// of the library uses none of this.
 ghost use mathlib.Core.Path.{_≡_};
 ghost use Prim.Native.Nat.{_*_, _≤_, _<_};
 ghost use lib.ListN.{length, getD};

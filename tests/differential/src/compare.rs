@@ -2,20 +2,25 @@
 //! Answers and whole buffers, guards too, must be equal afterwards.
 
 mod alone;
+mod ideal;
 mod join;
+mod lone;
 mod parts;
 mod principal;
 mod shapes;
+mod withdrawals;
 
 use crate::calls::{Calls, REFERENCE};
 use crate::random::mix;
 use crate::reference::{Answer, Finding, Runs};
 use alone::Alone;
+use ideal::Ideals;
 use join::Joins;
 use parts::Parts;
 use principal::Principals;
 use std::fmt::Debug;
 use std::sync::atomic::{AtomicUsize, Ordering};
+use withdrawals::Withdrawals;
 
 /// The call under way on the library's side, as a place in `NAMES` plus 1, so
 /// that a panic can be told apart.
@@ -229,7 +234,9 @@ pub struct Compare {
     parts: Parts,
     principals: Principals,
     joins: Joins,
+    ideals: Ideals,
     alone: Alone,
+    withdrawals: Withdrawals,
     /// Tells each call on standard error before it is made.
     pub trace: bool,
 }
@@ -252,7 +259,9 @@ impl Compare {
             parts: Parts::new(),
             principals: Principals::new(),
             joins: Joins::new(),
+            ideals: Ideals::new(),
             alone: Alone::new(),
+            withdrawals: Withdrawals::new(),
             trace: false,
         }
     }
@@ -273,7 +282,9 @@ impl Compare {
         text += &format!("  parts: {}\n", self.parts.told());
         text += &format!("  principal: {}\n", self.principals.told());
         text += &format!("  join: {}\n", self.joins.told());
-        text + &format!("  alone: {}\n", self.alone.told())
+        text += &format!("  ideal: {}\n", self.ideals.told());
+        text += &format!("  alone: {}\n", self.alone.told());
+        text + &format!("  withdrawals: {}\n", self.withdrawals.told())
     }
 
     /// A call with a number that it can give but never gave, or a shape that
@@ -290,9 +301,12 @@ impl Compare {
             ("parts with", self.parts.never_met()),
             ("principal with", self.principals.never_met()),
             ("join:", self.joins.never_met()),
+            ("ideal:", self.ideals.never_met()),
             ("alone:", self.alone.never_met()),
+            ("withdrawals:", self.withdrawals.never_met()),
         ];
-        shapes.iter().find_map(|(what, shape)| shape.map(|shape| format!("{what} {shape}")))
+        let never = |(what, shape): &(_, Option<_>)| shape.map(|shape| format!("{what} {shape}"));
+        shapes.iter().find_map(never).or(self.ideals.kinds_never_met())
     }
 
     /// Sorts an answer by its number, and a few by their reply too.
@@ -423,18 +437,6 @@ impl Compare {
         keys: &Piece<u32>,
     ) -> Result<Outcome<u32, u32, Runs>> {
         self.on_table("held", &[n as u64], table, keys, |c, t, keys| (c.held)(t, n, keys))
-    }
-
-    pub fn audit(&mut self, table: &Piece<u32>) -> Result<Outcome<u32, u32>> {
-        self.on_table("audit", &[], table, &nothing(), |c, t, _| (c.audit)(t))
-    }
-
-    pub fn findings(
-        &mut self,
-        table: &Piece<u32>,
-        findings: &Piece<Finding>,
-    ) -> Result<Outcome<u32, Finding>> {
-        self.on_table("findings", &[], table, findings, |c, t, f| (c.findings)(t, f))
     }
 
     pub fn alike(&mut self, a: &Piece<u32>, b: &Piece<u32>) -> Result<Outcome<u32, u32>> {

@@ -252,13 +252,17 @@ impl Table {
     }
 
     /// "each first entry is the next member up, each predecessor the next
-    /// down, round the end"
+    /// down, round the end", and "also needs each list to be the next r members
+    /// in order"; of r or fewer members they repeat, the member itself included.
     fn is_ideal(&self) -> bool {
         let n = self.members.len();
+        let next = |i: usize, k: usize| self.members[(i + k) % n].identifier;
         (0..n).all(|i| {
-            let up = self.members[(i + 1) % n].identifier;
-            let down = self.members[(i + n - 1) % n].identifier;
-            self.members[i].first_entry() == up && self.members[i].predecessor == down
+            let member = &self.members[i];
+            let list: Vec<u32> = (1..=self.r).map(|k| next(i, k)).collect();
+            member.first_entry() == next(i, 1)
+                && member.predecessor == next(i, n - 1)
+                && member.list == list
         })
     }
 

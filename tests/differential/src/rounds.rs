@@ -2,11 +2,13 @@
 //! finds a difference can be run again alone.
 
 mod held;
+mod ideal;
 mod images;
 mod join;
 mod principal;
 
 use held::{held, held_calls};
+use ideal::{full_ideal, ideal};
 use images::{image, read_image};
 use join::join;
 use principal::principal;
@@ -21,7 +23,7 @@ type Result = std::result::Result<(), String>;
 type Round = fn(&mut Compare, &mut Random) -> Result;
 
 /// The kinds of rounds in turn.
-const KINDS: [(&str, Round); 18] = [
+const KINDS: [(&str, Round); 19] = [
     ("tiny", tiny),
     ("sound churn", sound_churn),
     ("broken", broken),
@@ -40,23 +42,28 @@ const KINDS: [(&str, Round); 18] = [
     ("held", held),
     ("principal", principal),
     ("join", join),
+    ("ideal", ideal),
 ];
 
 /// Runs one round; the error tells what differs and how to see it again.
 pub fn round(compare: &mut Compare, seed: u64, number: u64) -> Result {
     let mut random = Random::new(mix(seed).wrapping_add(mix(number)));
-    // Full tables take long, so they come in every fourth turn only.
-    let (kind, run) = match number as usize % (4 * KINDS.len()) {
-        15 => ("full", full as Round),
-        turn => KINDS[turn % KINDS.len()],
+    // Full tables take long, so they come in every fourth turn only, or every eighth.
+    let kinds = KINDS.len();
+    let (kind, run) = match number as usize % (8 * kinds) {
+        turn if turn % (4 * kinds) == 15 => ("full", full as Round),
+        18 => ("full ideal", full_ideal as Round),
+        turn => KINDS[turn % kinds],
     };
     run(compare, &mut random)
         .map_err(|text| format!("{text}  round {number} ({kind}), seed {seed}\n"))
 }
 
-/// A run of the library alone, in which no call is compared.
+/// Runs of the library alone, in which no call is compared.
 pub fn alone(compare: &mut Compare, seed: u64, number: u64) -> Result {
-    compare.alone(&mut Random::new(mix(seed).wrapping_add(mix(number))))
+    let mut random = Random::new(mix(seed).wrapping_add(mix(number)));
+    compare.alone(&mut random)?;
+    compare.withdrawals(&mut random, false)
 }
 
 /// Lengths near the needed one.

@@ -4,6 +4,7 @@
 
 mod calls;
 mod held;
+mod ideal;
 mod image;
 mod join;
 mod principal;
@@ -15,6 +16,7 @@ pub use join::*;
 pub use principal::*;
 
 use crate::reference::{Answer, Finding, Runs};
+use ideal::verdict;
 use std::cell::Cell;
 
 macro_rules! faults {
@@ -34,6 +36,11 @@ faults! {
     SixOwn: "6 asks the list of the member that withdraws",
     SevenOwn: "7 asks the list of the member that withdraws",
     SevenOverSix: "7 given where 6 applies too",
+    SixSoon: "6 given where one live entry is left",
+    SixFirst: "6 judged of first entries alone",
+    SevenSoon: "7 given where r + 1 principals are left",
+    SevenDead: "7 counts no member behind a dead first entry",
+    LeaveCount: "a withdrawal replies the member count before it",
     DeadPrincipal: "a dead identifier counted as principal",
     FirstPair: "pair of a member and its first entry not asked",
     LastPair: "pair of the last two entries not asked",
@@ -142,8 +149,28 @@ faults! {
     RingShort: "a ring of all members not walked to its end",
     FirstRingOnly: "only one of several rings counted",
     SoundPending: "pending candidates not asked for soundness",
+    SoundFew: "r principals taken as enough for soundness",
+    IdealUnsound: "an ideal table that is not sound given 2",
+    IdealEmpty: "a table without members given 2",
+    IdealCandidate: "pending candidates not asked where the table is ideal",
     IdealPending: "a pending member not ideal",
     IdealPredecessor: "predecessors not asked for the ideal",
+    IdealLowestDown: "the lowest member's predecessor not asked for the ideal",
+    IdealFirst: "first entries alone asked for the ideal",
+    IdealTwo: "entries after the second not asked for the ideal",
+    IdealSecond: "second entries not asked for the ideal",
+    IdealLast: "last entries not asked for the ideal, but where r is 1",
+    IdealEighth: "eighth entries not asked for the ideal",
+    IdealTurn: "later entries not asked past the highest member",
+    IdealFullTurn: "later entries of a full table not asked past the highest member",
+    IdealUpTo: "later entries of a list up to the highest member not asked for the ideal",
+    IdealOnePast: "later entries of a list one past the highest member not asked for the ideal",
+    IdealLowest: "later entries of the lowest member not asked for the ideal",
+    IdealHighest: "later entries of the highest member not asked for the ideal",
+    IdealBetween: "later entries of the lowest and highest alone asked for the ideal",
+    IdealWaiting: "later entries of a pending member not asked for the ideal",
+    IdealLive: "later entries that are members taken as ideal",
+    IdealDead: "later entries that are no members taken as ideal",
     FindingsLost: "moves 0 where the walk never comes to the ring",
     FindingsRest: "findings past the members cleared",
     FindingsShort: "findings filled as far as they go before 10",
@@ -186,6 +213,35 @@ pub const ALONE: &[Fault] = &[
     Fault::AgainLive,
     Fault::HeadAppended,
     Fault::PastSlice,
+    Fault::FreedNotZeroed,
+    Fault::FreedOneTooMany,
+    Fault::SixBefore,
+    Fault::SevenBefore,
+    Fault::SevenOverSix,
+    Fault::SixSoon,
+    Fault::SixFirst,
+    Fault::SevenSoon,
+    Fault::SevenDead,
+    Fault::LeaveCount,
+    Fault::RefusalWrites,
+    Fault::RectifyAlive,
+    Fault::IdealPending,
+    Fault::IdealPredecessor,
+    Fault::IdealLowestDown,
+    Fault::IdealFirst,
+    Fault::IdealTwo,
+    Fault::IdealSecond,
+    Fault::IdealLast,
+    Fault::IdealEighth,
+    Fault::IdealTurn,
+    Fault::IdealUpTo,
+    Fault::IdealOnePast,
+    Fault::IdealLowest,
+    Fault::IdealHighest,
+    Fault::IdealBetween,
+    Fault::IdealWaiting,
+    Fault::IdealLive,
+    Fault::IdealDead,
     Fault::JoinHeadless,
     Fault::DeadNever,
     Fault::DeadJoiner,
@@ -390,30 +446,8 @@ fn ring(t: &[u32]) -> Vec<bool> {
     on
 }
 
-fn verdict(t: &[u32]) -> u32 {
-    let n = size(t);
-    let mut ideal = true;
-    for i in 0..n {
-        if first_live(t, i).is_none() {
-            return 0;
-        }
-        let o = offset(t, i);
-        if t[o + 2] == 1 && !planted(Fault::SoundPending) && !between(t[o], t[o + 3], t[o + 4]) {
-            return 0;
-        }
-        let up = if i + 1 == n { 0 } else { i + 1 };
-        let down = if i == 0 { n - 1 } else { i - 1 };
-        ideal = ideal && t[o + 4] == id(t, up);
-        ideal = ideal && (t[o + 2] == 0 || !planted(Fault::IdealPending));
-        ideal = ideal && (t[o + 1] == id(t, down) || planted(Fault::IdealPredecessor));
-    }
-    if principals(t) <= t[0] as usize {
-        return 0;
-    }
-    1 + ideal as u32
-}
-
 fn report(t: &[u32]) -> Answer {
     let on = ring(t).into_iter().filter(|&b| b).count();
-    yes([t[1], principals(t) as u32, on as u32, verdict(t)])
+    let principals = principals(t);
+    yes([t[1], principals as u32, on as u32, verdict(t, principals)])
 }

@@ -1,7 +1,6 @@
-//! Runs of the library alone, from a new table. The reference makes no call; what
-//! must hold is read off the words that the library left. Losses are only those
-//! that a withdrawal is granted. From one loss to the next, while only joins,
-//! stabilize and rectify steps are made:
+//! Runs of the library alone, from a new table. Losses are only those that a
+//! withdrawal is granted. From one loss to the next, while only joins, stabilize and
+//! rectify steps are made:
 //! - a member whose first entry was live never says again, so a new one never does;
 //! - another says again fewer than r times;
 //! - 13 declines a join behind a dead first entry, and no other;
@@ -9,12 +8,11 @@
 //!   longer declines a join by p.
 
 use super::join::{first_entry, is_member, joined, record, records};
+use super::lone::Lone;
 use super::shapes::Shapes;
-use super::{place, watched, Compare, Lent, Piece, Result};
-use crate::calls::Calls;
+use super::{Compare, Result};
 use crate::make::{self, Space};
 use crate::random::Random;
-use crate::reference::Answer;
 use std::collections::{BTreeMap, BTreeSet};
 
 /// What these runs must meet.
@@ -51,10 +49,8 @@ impl Alone {
 
 /// One run.
 struct Run<'a> {
-    calls: &'static Calls,
-    trace: bool,
     shapes: &'a mut Shapes<{ SHAPES.len() }>,
-    table: Lent<u32>,
+    table: Lone,
     /// Since the last loss: members whose first entry was live, those that
     /// joined, and how often a member said again.
     settled: BTreeSet<u32>,
@@ -63,56 +59,18 @@ struct Run<'a> {
 }
 
 impl Run<'_> {
-    fn words(&self) -> &[u32] {
-        &self.table.all[self.table.start..self.table.start + self.table.len]
-    }
-
-    fn members(&self) -> Vec<u32> {
-        records(self.words()).map(|m| m[0]).collect()
-    }
-
-    fn wrong<T>(&self, name: &str, what: String) -> Result<T> {
-        Err(format!("DIFFERENCE in {name}, {what}\n  table {:?}\n", self.words()))
-    }
-
-    fn call(
-        &mut self,
-        name: &str,
-        arguments: &[u32],
-        call: impl Fn(&Calls, &mut [u32]) -> Answer,
-    ) -> Answer {
-        if self.trace {
-            eprintln!("{name} {arguments:?}\n  table {:?}", self.words());
-        }
-        let (calls, slice) = (self.calls, self.table.slice());
-        watched(place(name), || call(calls, slice))
-    }
-
-    /// A call that must be accepted.
-    fn accepted(
-        &mut self,
-        name: &str,
-        arguments: &[u32],
-        call: impl Fn(&Calls, &mut [u32]) -> Answer,
-    ) -> Result<[u32; 4]> {
-        match self.call(name, arguments, call) {
-            Answer { number: 0, values, .. } => Ok(values),
-            given => self.wrong(name, format!("{arguments:?} is given {given:?}")),
-        }
-    }
-
     /// One step of a member.
     fn step(&mut self, n: u32) -> Result<()> {
-        if first_entry(self.words(), n).is_some_and(|(_, live)| live) {
+        if first_entry(self.table.words(), n).is_some_and(|(_, live)| live) {
             self.settled.insert(n);
         }
-        let words = self.words();
+        let words = self.table.words();
         let r = words[0];
         let unseen = record(words, n).is_some_and(|m| m[2] == 1 && !is_member(words, m[3]));
-        let said = self.accepted("stabilize", &[n], |c, t| (c.stabilize)(t, n))?[0];
+        let said = self.table.accepted("stabilize", &[n], |c, t| (c.stabilize)(t, n))?[0];
         if said == 0 && self.settled.contains(&n) {
             let new = if self.joined.contains(&n) { "new " } else { "" };
-            return self.wrong("stabilize", format!("the {new}member {n} says again"));
+            return self.table.wrong("stabilize", format!("the {new}member {n} says again"));
         }
         if self.joined.contains(&n) {
             self.shapes.meet("steps of a new member");
@@ -125,7 +83,7 @@ impl Run<'_> {
             let agains = self.agains.entry(n).or_default();
             *agains += 1;
             if *agains >= r {
-                return self.wrong("stabilize", format!("{n} says again {r} times"));
+                return self.table.wrong("stabilize", format!("{n} says again {r} times"));
             }
         }
         Ok(())
@@ -135,22 +93,22 @@ impl Run<'_> {
     /// Gives its number.
     fn join(&mut self, j: u32, p: u32) -> Result<u32> {
         let before = self.table.clone();
-        let known = is_member(self.words(), j);
-        let live = first_entry(self.words(), p).is_some_and(|(_, live)| live);
-        let number = self.call("join", &[j, p], |c, t| (c.join)(t, j, p)).number;
+        let known = is_member(self.table.words(), j);
+        let live = first_entry(self.table.words(), p).is_some_and(|(_, live)| live);
+        let number = self.table.call("join", &[j, p], |c, t| (c.join)(t, j, p)).number;
         let told = format!("{j} by {p} is given {number}");
-        if number != 0 && before.all != self.table.all {
-            return self.wrong("join", format!("{told}, and a word is written"));
+        if number != 0 && !before.equals(&self.table) {
+            return self.table.wrong("join", format!("{told}, and a word is written"));
         }
         if !known && (number == 13) == live {
-            return self.wrong("join", told);
+            return self.table.wrong("join", told);
         }
         if number == 13 {
             self.shapes.meet("13");
         }
         if number == 0 {
-            if let Err(what) = joined(self.words(), j, p) {
-                return self.wrong("join", what);
+            if let Err(what) = joined(self.table.words(), j, p) {
+                return self.table.wrong("join", what);
             }
             self.settled.insert(j);
             self.joined.insert(j);
@@ -163,7 +121,7 @@ impl Run<'_> {
     /// 13 declines it, more often than not steps of p until its first entry is a
     /// member, and the join once more.
     fn some_join(&mut self, random: &mut Random, p: u32) -> Result<()> {
-        let (first, _) = first_entry(self.words(), p).expect("p is a member");
+        let (first, _) = first_entry(self.table.words(), p).expect("p is a member");
         let way = first.wrapping_sub(p).wrapping_sub(1);
         if way == 0 {
             return Ok(());
@@ -174,17 +132,17 @@ impl Run<'_> {
         if self.join(j, p)? != 13 || random.one_in(4) {
             return Ok(());
         }
-        let pending = record(self.words(), p).is_some_and(|m| m[2] == 1);
+        let pending = record(self.table.words(), p).is_some_and(|m| m[2] == 1);
         // r steps are enough: a pending one, and fewer agains than the list has
         // entries.
-        for _ in 0..self.words()[0] {
-            if first_entry(self.words(), p).is_some_and(|(_, live)| live) {
+        for _ in 0..self.table.words()[0] {
+            if first_entry(self.table.words(), p).is_some_and(|(_, live)| live) {
                 break;
             }
             self.step(p)?;
         }
-        let Some((first, true)) = first_entry(self.words(), p) else {
-            return self.wrong("stabilize", format!("{p} keeps a dead first entry"));
+        let Some((first, true)) = first_entry(self.table.words(), p) else {
+            return self.table.wrong("stabilize", format!("{p} keeps a dead first entry"));
         };
         // A candidate that was adopted may stand before j.
         let way = first.wrapping_sub(p).wrapping_sub(1);
@@ -200,10 +158,10 @@ impl Run<'_> {
     /// The loss of a member, if its withdrawal would be granted.
     fn some_loss(&mut self, n: u32) -> Result<()> {
         let before = self.table.clone();
-        let granted = self.call("leave", &[n], |c, t| (c.leave)(t, n)).number == 0;
+        let granted = self.table.call("leave", &[n], |c, t| (c.leave)(t, n)).number == 0;
         self.table = before;
         if granted {
-            self.accepted("fail", &[n], |c, t| (c.fail)(t, n))?;
+            self.table.accepted("fail", &[n], |c, t| (c.fail)(t, n))?;
             self.shapes.meet("losses");
         }
         Ok(())
@@ -211,9 +169,9 @@ impl Run<'_> {
 
     /// The table must be sound.
     fn sound(&mut self) -> Result<()> {
-        let verdict = self.accepted("audit", &[], |c, t| (c.audit)(t))?[3];
-        if verdict == 0 || self.words()[1] == 0 {
-            return self.wrong("audit", "not sound".to_string());
+        let verdict = self.table.accepted("audit", &[], |c, t| (c.audit)(t))?[3];
+        if verdict == 0 || self.table.words()[1] == 0 {
+            return self.table.wrong("audit", "not sound".to_string());
         }
         Ok(())
     }
@@ -222,17 +180,17 @@ impl Run<'_> {
     fn no_more_losses(&mut self) {
         self.joined.clear();
         self.agains.clear();
-        let words = self.words();
+        let words = self.table.words();
         self.settled = records(words).filter(|m| is_member(words, m[4])).map(|m| m[0]).collect();
     }
 
     fn some_call(&mut self, random: &mut Random, space: Space) -> Result<()> {
-        let members = self.members();
+        let members = self.table.members();
         let n = random.pick(&members);
         match random.below(10) {
             0..=2 => {
                 // Those behind a dead first entry more often than the others.
-                let words = self.words();
+                let words = self.table.words();
                 let behind = records(words).filter(|m| !is_member(words, m[4])).map(|m| m[0]);
                 let behind: Vec<u32> = behind.collect();
                 let p = match behind.is_empty() || random.one_in(2) {
@@ -250,7 +208,7 @@ impl Run<'_> {
             _ => {
                 // A notice from a member or from anybody.
                 let q = if random.one_in(3) { space.pick(random) } else { random.pick(&members) };
-                self.accepted("rectify", &[n, q], |c, t| (c.rectify)(t, n, q)).map(|_| ())
+                self.table.accepted("rectify", &[n, q], |c, t| (c.rectify)(t, n, q)).map(|_| ())
             }
         }
     }
@@ -264,23 +222,21 @@ impl Compare {
         let ids = space.rising(random, n);
         let most = n + random.range(1, 12);
         let words = make::junk(random, 3 + most * (r + 4));
-        let table = Lent::new(&Piece::whole(words), random.next());
-        let guards = table.clone();
+        let table = Lone::new(self, random, words);
+        let guards = table.outside();
         let mut run = Run {
-            calls: self.under_test,
-            trace: self.trace,
             shapes: &mut self.alone.shapes,
             table,
             settled: BTreeSet::new(),
             joined: BTreeSet::new(),
             agains: BTreeMap::new(),
         };
-        run.accepted("new", &[r as u32], |c, t| (c.new)(t, r as u32, &ids))?;
+        run.table.accepted("new", &[r as u32], |c, t| (c.new)(t, r as u32, &ids))?;
         for _ in 0..random.range(2, 6) {
             // Neighbours, so that lists lose their fronts; sometimes those that a
             // member with a pending step stands before.
-            let members = run.members();
-            let waiting = records(run.words()).filter(|m| m[2] == 1).map(|m| m[4]);
+            let members = run.table.members();
+            let waiting = records(run.table.words()).filter(|m| m[2] == 1).map(|m| m[4]);
             let ahead = waiting.filter_map(|id| members.iter().position(|&known| known == id));
             let ahead: Vec<usize> = ahead.collect();
             let at = match ahead.is_empty() || random.one_in(2) {
@@ -297,11 +253,9 @@ impl Compare {
             }
             run.sound()?;
         }
-        let outside = |lent: &Lent<u32>| {
-            [&lent.all[..lent.start], &lent.all[lent.start + lent.len..]].concat()
-        };
-        if outside(&run.table) != outside(&guards) {
-            return run.wrong("one of these calls", "a word outside is written".to_string());
+        if run.table.outside() != guards {
+            let what = "a word outside is written".to_string();
+            return run.table.wrong("one of these calls", what);
         }
         self.alone.runs += 1;
         Ok(())

@@ -71,8 +71,12 @@ impl Compare {
     pub fn parts(&self) -> String {
         format!(
             "keys parted on {} tables, {} owners found; principals counted on {} tables; \
-             {} runs of the library alone",
-            self.parts.tables, self.parts.finds, self.principals.tables, self.alone.runs
+             {} runs of the library alone; {} withdrawals from verdict 2",
+            self.parts.tables,
+            self.parts.finds,
+            self.principals.tables,
+            self.alone.runs,
+            self.withdrawals.made
         )
     }
 

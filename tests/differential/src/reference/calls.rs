@@ -388,3 +388,51 @@ mod joins {
         assert_eq!(tried(&table, 1021, 1020), (decline(13), true));
     }
 }
+
+#[cfg(test)]
+mod verdicts {
+    use super::*;
+
+    #[test]
+    fn whole_lists() {
+        // Line 7 of document 01's session: the second entry of 10 is still 30.
+        let mut table = [0; 33];
+        new(&mut table, 2, &[10, 20, 30, 40]);
+        join(&mut table, 25, 20);
+        stabilize(&mut table, 25);
+        rectify(&mut table, 30, 25);
+        stabilize(&mut table, 20);
+        stabilize(&mut table, 20);
+        assert_eq!(audit(&table), accept(&[5, 4, 5, 1]));
+        assert_eq!(stabilize(&mut table, 10), accept(&[2, 20]));
+        assert_eq!(audit(&table), accept(&[5, 5, 5, 2]));
+        // The highest member's last entry, round the end, dead or another member.
+        for entry in [15, 25] {
+            let mut late = table;
+            late[32] = entry;
+            assert_eq!(audit(&late).values[3], 1);
+        }
+        // r or fewer members repeat, and are never sound.
+        assert!(Table::decode(&[3, 1, 0, 7, 7, 0, 0, 7, 7, 7]).unwrap().is_ideal());
+        let two = [3, 2, 0, 5, 7, 0, 0, 7, 5, 7, 7, 5, 0, 0, 5, 7, 5];
+        assert!(Table::decode(&two).unwrap().is_ideal());
+        assert_eq!(audit(&two), accept(&[2, 2, 2, 0]));
+        assert!(Table::decode(&[3, 0, 0]).unwrap().is_ideal());
+        assert_eq!(audit(&[3, 0, 0]), accept(&[0, 0, 0, 0]));
+    }
+
+    #[test]
+    fn withdrawals() {
+        let ids = [10, 20, 30, 40, 50, 60];
+        let mut table = [0; 45];
+        new(&mut table, 2, &ids);
+        assert_eq!(leave(&mut table, 20), accept(&[5]));
+        assert_eq!(leave(&mut table, 30), decline(6));
+        // r - 1 neighbours, round the end.
+        new(&mut table, 3, &ids);
+        assert_eq!(leave(&mut table, 60), accept(&[5]));
+        assert_eq!(leave(&mut table, 10), accept(&[4]));
+        assert_eq!(leave(&mut table, 20), decline(6));
+        assert_eq!(leave(&mut table, 30), decline(7));
+    }
+}

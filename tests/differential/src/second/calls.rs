@@ -166,24 +166,26 @@ pub fn leave(table: &mut [u32], n: u32) -> Answer {
         return no(3);
     };
     // Judged as if the record were gone.
+    let left = |e: &u32| (planted(Fault::SixBefore) || *e != n) && find(table, *e).is_some();
+    let least = if planted(Fault::SixSoon) { 2 } else { 1 };
     let dead = (0..size(table)).any(|m| {
+        let asked = if planted(Fault::SixFirst) { 1 } else { width(table) - 4 };
         (m != i || planted(Fault::SixOwn))
-            && !list(table, m)
-                .iter()
-                .any(|&e| (planted(Fault::SixBefore) || e != n) && find(table, e).is_some())
+            && list(table, m)[..asked].iter().filter(|&e| left(e)).count() < least
     });
     let before = planted(Fault::SevenBefore);
+    let unled = |m: usize| planted(Fault::SevenDead) && !left(&list(table, m)[0]);
     let left = (0..size(table))
         .filter(|&m| {
             if before {
                 unskipped(table, id(table, m), None)
             } else {
                 let without = if planted(Fault::SevenOwn) { None } else { Some(i) };
-                m != i && unskipped(table, id(table, m), without)
+                m != i && unskipped(table, id(table, m), without) && !unled(m)
             }
         })
         .count();
-    let few = left <= table[0] as usize;
+    let few = left <= table[0] as usize + planted(Fault::SevenSoon) as usize;
     if dead && !(few && planted(Fault::SevenOverSix)) {
         return no(6);
     }
@@ -193,7 +195,9 @@ pub fn leave(table: &mut [u32], n: u32) -> Answer {
         }
         return no(7);
     }
-    remove(table, i)
+    let mut answer = remove(table, i);
+    answer.values[0] += planted(Fault::LeaveCount) as u32;
+    answer
 }
 
 pub fn lookup(table: &[u32], n: u32, k: u32) -> Answer {

@@ -1,0 +1,72 @@
+//! A table between guards that the library alone is called on. The reference makes
+//! no call; what must hold is read off the words that the library left.
+
+use super::join::records;
+use super::{place, watched, Compare, Lent, Piece, Result};
+use crate::calls::Calls;
+use crate::random::Random;
+use crate::reference::Answer;
+
+#[derive(Clone)]
+pub struct Lone {
+    pub calls: &'static Calls,
+    trace: bool,
+    lent: Lent<u32>,
+}
+
+impl Lone {
+    /// A slice of these words, which need not be a table yet.
+    pub fn new(compare: &Compare, random: &mut Random, words: Vec<u32>) -> Lone {
+        let lent = Lent::new(&Piece::whole(words), random.next());
+        Lone { calls: compare.under_test, trace: compare.trace, lent }
+    }
+
+    pub fn words(&self) -> &[u32] {
+        &self.lent.all[self.lent.start..self.lent.start + self.lent.len]
+    }
+
+    /// The guards.
+    pub fn outside(&self) -> Vec<u32> {
+        let (start, end) = (self.lent.start, self.lent.start + self.lent.len);
+        [&self.lent.all[..start], &self.lent.all[end..]].concat()
+    }
+
+    /// Are slice and guards the same as those of another?
+    pub fn equals(&self, other: &Lone) -> bool {
+        self.lent.all == other.lent.all
+    }
+
+    pub fn members(&self) -> Vec<u32> {
+        records(self.words()).map(|m| m[0]).collect()
+    }
+
+    pub fn wrong<T>(&self, name: &str, what: String) -> Result<T> {
+        Err(format!("DIFFERENCE in {name}, {what}\n  table {:?}\n", self.words()))
+    }
+
+    pub fn call(
+        &mut self,
+        name: &str,
+        arguments: &[u32],
+        call: impl Fn(&Calls, &mut [u32]) -> Answer,
+    ) -> Answer {
+        if self.trace {
+            eprintln!("{name} {arguments:?}\n  table {:?}", self.words());
+        }
+        let (calls, slice) = (self.calls, self.lent.slice());
+        watched(place(name), || call(calls, slice))
+    }
+
+    /// A call that must be accepted.
+    pub fn accepted(
+        &mut self,
+        name: &str,
+        arguments: &[u32],
+        call: impl Fn(&Calls, &mut [u32]) -> Answer,
+    ) -> Result<[u32; 4]> {
+        match self.call(name, arguments, call) {
+            Answer { number: 0, values, .. } => Ok(values),
+            given => self.wrong(name, format!("{arguments:?} is given {given:?}")),
+        }
+    }
+}
