@@ -12,11 +12,11 @@ use Rattle.model.specs.Answer.{accepted, _when_, firstOf}
 use Rattle.model.specs.Held.{lowest, keysTo, runsOf, bounds}
 use Rattle.model.specs.Refusals.{memberRefusal, heldRefusal}
 use Rattle.laws.specs.Lists.{rising-true}
+use Rattle.laws.specs.Places.{below-round, below-inside}
 use Rattle.laws.specs.Accepted.{causes-declined, causes-left}
 use Rattle.table.specs.Formed.{Formed}
 use Rattle.table.proofs.Members.{ids-count}
 use Rattle.ring.proofs.Laws.{same-place}
-use Rattle.rising.proofs.Rising.{below-round, below-inside}
 
 -- The causes after 1 and 3
 

@@ -12,8 +12,8 @@ use borrow.Author.Tests.{eq-eqb, ne-eqb}
 use Rattle.model.specs.Lists.{every, same}
 use Rattle.model.specs.Table.{Member, headerSize, recordSize, tableOf, membersOf, membersIn, ids}
 use Rattle.model.specs.Ring.{nobody, nextUp, nextDown, nextUps, idealMember, ideal}
-use Rattle.laws.specs.Lists.{Rising, rising-true}
-use Rattle.laws.specs.Places.{next-up-place, next-up-end, next-down-place, next-down-start, next-ups-place}
+use Rattle.laws.specs.Lists.{rising-true}
+use Rattle.laws.specs.Places.{next-ups-place, above-inside, above-round, below-inside, below-round}
 use Rattle.laws.specs.Words.{members-length}
 use Rattle.table.specs.Formed.{Formed}
 use Rattle.table.proofs.Members.{span, members-take, members-drop, id-of, ids-count, whole}
@@ -21,20 +21,20 @@ use Rattle.table.proofs.Members.{span, members-take, members-drop, id-of, ids-c
 -- The neighbours of the member at place k
 
 module _ (ws : List ℕ) (f : Formed ws) (k : ℕ) (h : k < getD ws 1 0) where
-  rise : Rising (ids (membersIn ws))
-  rise = rising-true (ids (membersIn ws)) (f .rises)
+  within : k < length (ids (membersIn ws))
+  within = omega (arith, ids-count ws)
 
-  pub above-next : k + 1 < getD ws 1 0 → getD (ids (membersIn ws)) (k + 1) 0 ≡ nextUp (ids (membersIn ws)) (getD (ids (membersIn ws)) k 0)
-  above-next l = let e : k + 1 ≡ suc k = omega arith in rw e (sym (next-up-place (ids (membersIn ws)) rise k (omega (arith, ids-count ws))))
+  pub up-next : k + 1 < getD ws 1 0 → getD (ids (membersIn ws)) (k + 1) 0 ≡ nextUp (ids (membersIn ws)) (getD (ids (membersIn ws)) k 0)
+  up-next l = above-inside (ids (membersIn ws)) (f .rises) k within (omega (arith, ids-count ws))
 
-  pub above-round : getD ws 1 0 ≤ k + 1 → getD (ids (membersIn ws)) 0 0 ≡ nextUp (ids (membersIn ws)) (getD (ids (membersIn ws)) k 0)
-  above-round l = sym (next-up-end (ids (membersIn ws)) rise k (omega (arith, ids-count ws)))
+  pub up-round : getD ws 1 0 ≤ k + 1 → getD (ids (membersIn ws)) 0 0 ≡ nextUp (ids (membersIn ws)) (getD (ids (membersIn ws)) k 0)
+  up-round l = above-round (ids (membersIn ws)) (f .rises) k within (omega (arith, ids-count ws))
 
-  pub below-next : 1 ≤ k → getD (ids (membersIn ws)) (k - 1) 0 ≡ nextDown (ids (membersIn ws)) (getD (ids (membersIn ws)) k 0)
-  below-next l = let e : suc (k - 1) ≡ k = omega arith in rw e at (sym (next-down-place (ids (membersIn ws)) rise (k - 1) (omega (arith, ids-count ws))))
+  pub down-next : 1 ≤ k → getD (ids (membersIn ws)) (k - 1) 0 ≡ nextDown (ids (membersIn ws)) (getD (ids (membersIn ws)) k 0)
+  down-next l = below-inside (ids (membersIn ws)) (f .rises) k within l
 
-  pub below-round : k < 1 → getD (ids (membersIn ws)) (getD ws 1 0 - 1) 0 ≡ nextDown (ids (membersIn ws)) (getD (ids (membersIn ws)) k 0)
-  below-round l = let e : k ≡ 0 = omega arith in rw (e, next-down-start (ids (membersIn ws)) rise, ids-count ws)
+  pub down-round : k < 1 → getD (ids (membersIn ws)) (getD ws 1 0 - 1) 0 ≡ nextDown (ids (membersIn ws)) (getD (ids (membersIn ws)) k 0)
+  down-round l = ap (λ (n : ℕ). getD (ids (membersIn ws)) (n - 1) 0) (sym (ids-count ws)) ∙ below-round (ids (membersIn ws)) (f .rises) k within l
 
 -- A list p against a list l that starts with y, entry by entry
 
@@ -98,7 +98,7 @@ module _ (ws : List ℕ) (f : Formed ws) (k at n : ℕ) (few : k + 1 + n ≤ get
 
 -- The member at place k, whose record starts at at
 
-module _ (ws : List ℕ) (f : Formed ws) (k at : ℕ) (h : k < getD ws 1 0) (e : at ≡ headerSize + k * recordSize (getD ws 0 0)) (d : ℕ)
+module _ (ws : List ℕ) (k at : ℕ) (h : k < getD ws 1 0) (e : at ≡ headerSize + k * recordSize (getD ws 0 0)) (d : ℕ)
     (down : d ≡ nextDown (ids (membersIn ws)) (getD (ids (membersIn ws)) k 0)) where
   abbrev xs : List ℕ
   xs = ids (membersIn ws)

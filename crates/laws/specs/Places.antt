@@ -1,16 +1,17 @@
 -- Rising identifiers by place: the next up from the one at a place stands at the next place, round the end, and so on for the next n.
-use mathlib.Core.Path.{_≡_, refl, ap}
+use mathlib.Core.Path.{_≡_, refl, sym, ap}
 use mathlib.Core.Logic.{_⊎_, inl, inr, ⊎-elim}
+use mathlib.Core.Bool.{true}
 use mathlib.Core.List.{List, [], _∷_, _++_}
-use Prim.Native.Nat.{ℕ, zero, suc, _≤_, _<_}
+use Prim.Native.Nat.{ℕ, zero, suc, _+_, _-_, _≤_, _<_}
 use native.Mathlib.Omega.{arith}
 use lib.ListN.{length, getD, take, drop, drop-of-length-le}
 use lib.Seq.{drop-cons, take-append-le}
 use borrow.Author.Tests.{lt-ltb, le-ltb}
-use Rattle.model.specs.Lists.{lastOf}
+use Rattle.model.specs.Lists.{lastOf, rising}
 use Rattle.model.specs.Ring.{firstAbove, lastBelow, nextUp, nextDown, nextUps}
 use Rattle.laws.specs.Order.{less?}
-use Rattle.laws.specs.Lists.{In, here, there, in-cons, in-nil, Rising, above-in}
+use Rattle.laws.specs.Lists.{In, here, there, in-cons, in-nil, Rising, rising-true, above-in}
 use Rattle.laws.specs.Extended.{last-cons}
 
 pub place-in : (l : List ℕ) (k : ℕ) → k < length l → In (getD l k 0) l
@@ -92,3 +93,18 @@ module _ (xs : List ℕ) (a : Rising xs) where
       go : (suc k < length xs) ⊎ (length xs ≤ suc k) → ((j : ℕ) → j < length xs → nextUps n xs (getD xs j 0) ≡ take n (drop (suc j) xs ++ xs)) → nextUps (suc n) xs (getD xs k 0) ≡ take (suc n) (drop (suc k) xs ++ xs)
       go (inl l) ih = rw (next-up-place k l, ahead l, ih (suc k) l)
       go (inr l) ih = rw (next-up-end k (omega arith), round (omega arith), ih 0 (omega arith))
+
+-- the same as code has it: the places of the neighbours of the one at place i
+module _ (xs : List ℕ) (a : rising xs ≡ true) (i : ℕ) (h : i < length xs) where
+  pub above-inside : i + 1 < length xs → getD xs (i + 1) 0 ≡ nextUp xs (getD xs i 0)
+  above-inside l = let e : i + 1 ≡ suc i = omega arith in rw e (sym (next-up-place xs (rising-true xs a) i (omega arith)))
+
+  pub above-round : length xs ≤ i + 1 → getD xs 0 0 ≡ nextUp xs (getD xs i 0)
+  above-round l = sym (next-up-end xs (rising-true xs a) i (omega arith))
+
+  pub below-round : i < 1 → getD xs (length xs - 1) 0 ≡ nextDown xs (getD xs i 0)
+  below-round l = let e : i ≡ 0 = omega arith in rw e (sym (next-down-start xs (rising-true xs a)))
+
+pub below-inside : (xs : List ℕ) → rising xs ≡ true → (i : ℕ) → i < length xs → 1 ≤ i → getD xs (i - 1) 0 ≡ nextDown xs (getD xs i 0)
+below-inside xs a zero h l = absurd (omega arith)
+below-inside xs a (suc i) h l = let e : suc i - 1 ≡ i = omega arith in rw e (sym (next-down-place xs (rising-true xs a) i h))

@@ -1,6 +1,6 @@
--- Rising identifiers by place: what `is_rising` has left to look at, and the places of the next up and down. Assumes nothing.
+-- Rising identifiers by place: what `is_rising` has left to look at. Assumes nothing.
 use Prim.Native.Nat.{ℕ, zero, suc, _+_, _-_, _≤_, _<_}
-use mathlib.Core.Path.{_≡_, refl, sym}
+use mathlib.Core.Path.{_≡_, refl}
 use mathlib.Core.Bool.{true, false}
 use mathlib.Core.List.{List, [], _∷_}
 use native.Mathlib.Omega.{arith}
@@ -8,9 +8,6 @@ use lib.ListN.{length, getD, drop, length-drop}
 use lib.Seq.{drop-cons}
 use borrow.Author.Tests.{lt-ltb, le-ltb}
 use Rattle.model.specs.Lists.{rising}
-use Rattle.model.specs.Ring.{nextUp, nextDown}
-use Rattle.laws.specs.Lists.{rising-true}
-use Rattle.laws.specs.Places.{next-up-place, next-up-end, next-down-place, next-down-start}
 
 -- `is_rising` compares the identifier at place i with the one before it
 short-rising : (l : List ℕ) → length l ≤ 1 → true ≡ rising l
@@ -39,18 +36,3 @@ module _ (xs : List ℕ) where
       let e : suc j - 1 ≡ j = omega arith in
       let g : getD xs (suc j) 0 ≤ getD xs j 0 = rw e at l in
       rw (e, two xs j h, le-ltb (getD xs j 0) (getD xs (suc j) 0) g)
-
--- the places of the neighbours
-module _ (xs : List ℕ) (a : rising xs ≡ true) (i : ℕ) (h : i < length xs) where
-  pub above-inside : i + 1 < length xs → getD xs (i + 1) 0 ≡ nextUp xs (getD xs i 0)
-  above-inside l = let e : i + 1 ≡ suc i = omega arith in rw e (sym (next-up-place xs (rising-true xs a) i (omega arith)))
-
-  pub above-round : length xs ≤ i + 1 → getD xs 0 0 ≡ nextUp xs (getD xs i 0)
-  above-round l = sym (next-up-end xs (rising-true xs a) i (omega arith))
-
-  pub below-round : i < 1 → getD xs (length xs - 1) 0 ≡ nextDown xs (getD xs i 0)
-  below-round l = let e : i ≡ 0 = omega arith in rw e (sym (next-down-start xs (rising-true xs a)))
-
-pub below-inside : (xs : List ℕ) → rising xs ≡ true → (i : ℕ) → i < length xs → 1 ≤ i → getD xs (i - 1) 0 ≡ nextDown xs (getD xs i 0)
-below-inside xs a zero h l = absurd (omega arith)
-below-inside xs a (suc i) h l = let e : suc i - 1 ≡ i = omega arith in rw e (sym (next-down-place xs (rising-true xs a) i h))

@@ -23,7 +23,7 @@ returns c =
     let d = c .before in
     let o = d .before .before in
     let s = start o in
-    wrong-below (s .args .t .now) (s .pre .0) (s .args .k) (o .offset .result) (s .pre .1) (o .offset .ensures .0) (d .id-below .result) (d .id-below .ensures) (c .if1 .taken)
+    wrong-below (s .args .t .now) (s .args .k) (o .offset .result) (s .pre .1) (o .offset .ensures .0) (d .id-below .result) (d .id-below .ensures) (c .if1 .taken)
 
 part-names-next-end : tie.Need-part-names-next-end
 part-names-next-end c = let f = fits (c .before .before .before) in omega arith
@@ -36,7 +36,7 @@ returns-2 c =
     let s = start o in
     let ws = s .args .t .now in
     let f = fits o in
-    by-list ws (s .pre .0) (s .args .k) (o .offset .result) (s .pre .1) (o .offset .ensures .0) (d .id-below .result) (d .id-below .ensures) _ (c .names-next .result) (e .if1 .left)
+    by-list ws (s .args .k) (o .offset .result) (s .pre .1) (o .offset .ensures .0) (d .id-below .result) (d .id-below .ensures) _ (c .names-next .result) (e .if1 .left)
     (list-at ws (s .args .k) (o .offset .result) (s .pre .1) (o .offset .ensures .0)) (simp (length-take, length-drop) (omega arith)) (c .names-next .ensures)
 
 pub member-ideal-spec : {M : Type 1} → statement M

@@ -1,5 +1,5 @@
 -- `place_above` meets its contract. Assumes nothing.
-use Rattle.rising.proofs.Rising.{above-inside, above-round}
+use Rattle.laws.specs.Places.{above-inside, above-round}
 use borrow.Author.Needs.{needs}
 use Rattle.rising.proofs.place_above.Statement.{statement}
 use Rattle.rising.proofs.place_above.Tie as tie

@@ -1,5 +1,5 @@
 -- `place_below` meets its contract. Assumes nothing.
-use Rattle.rising.proofs.Rising.{below-inside, below-round}
+use Rattle.laws.specs.Places.{below-inside, below-round}
 use borrow.Author.Needs.{needs}
 use Rattle.rising.proofs.place_below.Statement.{statement}
 use Rattle.rising.proofs.place_below.Tie as tie
