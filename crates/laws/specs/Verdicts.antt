@@ -1,10 +1,10 @@
 -- The verdict, one case at a time. Assumes nothing.
-use Prim.Native.Nat.{_+_, _≤_, _<_}
-use mathlib.Core.Path.{_≡_}
-use mathlib.Core.Bool.{true, false, and-false}
+use Prim.Native.Nat.{ℕ, _+_, _≤_, _<_}
+use mathlib.Core.Path.{_≡_, refl}
+use mathlib.Core.Bool.{Bool, true, false, and-false}
 use native.Mathlib.Omega.{arith}
 use borrow.Author.Tests.{le-leb, lt-leb}
-use Rattle.model.specs.Lists.{every}
+use Rattle.model.specs.Lists.{if_then_else_, every}
 use Rattle.model.specs.Table.{Table}
 use Rattle.model.specs.Ring.{hasLive, principals, candidateInside, sound, ideal, verdict}
 
@@ -30,3 +30,13 @@ module _ (T : Table) where
   pub verdict-cut-off : every (hasLive (T .members)) (T .members) ≡ false → 0 ≡ verdict T
   unfolding verdict sound
   verdict-cut-off e = rw e
+
+-- and what verdict 2 says
+pub verdict-facts : (T : Table) → verdict T ≡ 2 → (sound T ≡ true) × (ideal T ≡ true)
+unfolding verdict
+verdict-facts T h = go (sound T) (ideal T) h
+  where
+    go : (a b : Bool) → _≡_ {A = ℕ} (if a then if b then 2 else 1 else 0) 2 → (a ≡ true) × (b ≡ true)
+    go true true e = (refl, refl)
+    go true false e = absurd (omega arith)
+    go false b e = absurd (omega arith)

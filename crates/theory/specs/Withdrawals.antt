@@ -1,15 +1,15 @@
 -- What verdict 2 allows: k withdrawals of different members, one after the other, are all granted, if k is at most r - 1 and at most members - r - 1.
 use mathlib.Core.Path.{_≡_, refl, sym, ap}
-use mathlib.Core.Bool.{Bool, true, false, not}
+use mathlib.Core.Bool.{true, false, not}
 use mathlib.Core.List.{List, [], _∷_, _++_, map}
 use Prim.Native.Nat.{ℕ, suc, _+_, _-_, _≤_, _<_}
 use native.Mathlib.Omega.{arith}
 use lib.ListN.{length, getD}
 use borrow.Author.Tests.{le-ltb}
-use Rattle.model.specs.Lists.{if_then_else_, every, count}
+use Rattle.model.specs.Lists.{every, count}
 use Rattle.model.specs.Identifier.{space}
 use Rattle.model.specs.Table.{Member, Table, tableOf, membersIn, ids, wellFormed}
-use Rattle.model.specs.Ring.{live, skips, principal, principals, hasLive, sound, ideal, verdict}
+use Rattle.model.specs.Ring.{live, skips, principal, principals, hasLive, verdict}
 use Rattle.model.specs.Answer.{accepted}
 use Rattle.model.specs.Steps.{without, removed}
 use Rattle.model.specs.Refusals.{cutsOff, tooFewPrincipals, leaveRefusal}
@@ -17,6 +17,7 @@ use Rattle.model.specs.Calls.{leaveAnswer, leaveWords}
 use Rattle.model.specs.Run.{Leave, callWords, run}
 use Rattle.laws.specs.Lists.{In, here, there, NoDup, count-le, count-all, count-length, count-but-one, count-any, every-in, in-every, rising-nodup, length-ids, named-in, in-ids, live-in, in-live}
 use Rattle.laws.specs.Tables.{Formed, Sound, Ideal, wellFormed-facts, sound-facts, ideal-facts}
+use Rattle.laws.specs.Verdicts.{verdict-facts}
 use Rattle.laws.specs.Removed.{removed-from, removed-ids, removed-keeps, removed-length}
 use Rattle.theory.specs.Claim.{InRingOrder}
 use Rattle.theory.specs.Static.{lists-in-order}
@@ -124,15 +125,6 @@ grants ws (b ∷ before) n later g nd all s =
     rw (← c) (grants (leaveWords ws b) before n later (leave-good ws g b) (nd .1)
     (λ x j. rw ms (removed-keeps b x (membersIn ws) (all x (there j)) (λ q. nd .0 (rw q at j))))
     (rw t (without-spare _ b (tableOf ws) i s)))
-
-verdict-facts : (T : Table) → verdict T ≡ 2 → (sound T ≡ true) × (ideal T ≡ true)
-unfolding verdict
-verdict-facts T h = go (sound T) (ideal T) h
-  where
-    go : (a b : Bool) → _≡_ {A = ℕ} (if a then if b then 2 else 1 else 0) 2 → (a ≡ true) × (b ≡ true)
-    go true true e = (refl, refl)
-    go true false e = absurd (omega arith)
-    go false b e = absurd (omega arith)
 
 pub withdrawals-granted : (ws ns : List ℕ) → MaySpare ws ns → AllGranted ws ns
 withdrawals-granted ws ns m before n later e =
