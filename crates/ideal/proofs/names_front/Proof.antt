@@ -1,5 +1,5 @@
 -- `names_front` meets its contract. The invariant: what is left of the list answers, against what is left of the records, as the whole list does. Assumes nothing.
-use Prim.Native.Nat.{_*_, _≤_}
+use Prim.Native.Nat.{_*_, _≤_, _<_}
 use mathlib.Core.Path.{_≡_, refl, _∙_}
 use native.Mathlib.Omega.{arith}
 use borrow.Author.Needs.{needs}
@@ -25,7 +25,7 @@ wide : (w : tie.After-width Inv-loop μ-loop) → w .width .result ≡ recordSiz
 wide w = w .width .ensures
 
 one : (i : tie.In-loop Inv-loop μ-loop) → recordSize (start (i .before .before) .args .r) ≤ length (i .before .loop .q .now)
-one i = let l = i .before in one-fits (start (l .before) .args .r) (length (l .loop .p .now)) (l .loop .q .now) (i .loop-test .taken) (l .loop .inv .0)
+one i = let l = i .before in one-fits (start (l .before) .args .r) (length (l .loop .p .now)) (l .loop .q .now) (omega (arith, i .loop-test .taken)) (l .loop .inv .0)
 
 shared-slice-read-if1-2 : tie.Need-shared-slice-read-if1-2 Inv-loop μ-loop
 shared-slice-read-if1-2 c = omega (arith, one (c .before .before))
@@ -35,7 +35,7 @@ returns c =
     let i = c .before .before .before in
     let l = i .before in
     let p = l .loop .p .now in
-    let some = i .loop-test .taken in
+    let some : 0 < length p = omega (arith, i .loop-test .taken) in
     differs p _ _ _ (first-record (start (l .before) .args .r) p (l .loop .q .now) some) some (c .if1 .taken) ∙ l .loop .inv .1
 
 whole : (i : tie.In-loop Inv-loop μ-loop) → i .before .before .width .result ≤ length (i .before .loop .q .now)
@@ -59,7 +59,7 @@ loop-again c =
     let q = l .loop .q .now in
     let w = l .before in
     let r = start w .args .r in
-    let some = i .loop-test .taken in
+    let some : 0 < length p = omega (arith, i .loop-test .taken) in
     rw (part-from 1 p, part-from (w .width .result) q, wide w) (rw length-drop (rest-fits r (length p) q some (l .loop .inv .0)), agrees p _ _ _ (first-record r p q some) some (e .if1 .left) ∙ l .loop .inv .1)
 
 returns-2 : tie.Need-returns-2 Inv-loop μ-loop

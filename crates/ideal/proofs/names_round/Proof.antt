@@ -25,8 +25,8 @@ returns : tie.Need-returns Inv-loop μ-loop
 returns c =
     let i = c .before in
     let a = i .before .before in
-    let some = a .before .loop-test .taken in
     let l = a .before .before in
+    let some : 0 < length (l .loop .rest .now) = omega (arith, a .before .loop-test .taken) in
     let xs = ids (membersIn (start l .args .t .now)) in
     differs (l .loop .rest .now) _ _ (i .id-at .result) (first-up xs (l .loop .rest .now) (getD xs (l .loop .j) 0) (i .id-at .result) (i .id-at .ensures ∙ a .place-above .ensures .1) some) some (c .if1 .taken) ∙ l .loop .inv .1
 
@@ -38,8 +38,8 @@ loop-again c =
     let e = c .before in
     let i = e .before in
     let a = i .before .before in
-    let some = a .before .loop-test .taken in
     let l = a .before .before in
+    let some : 0 < length (l .loop .rest .now) = omega (arith, a .before .loop-test .taken) in
     let xs = ids (membersIn (start l .args .t .now)) in
     let y = getD xs (a .place-above .result) 0 in
     (a .place-above .ensures .0, rw part-from (agrees (l .loop .rest .now) _ _ y (first-up xs (l .loop .rest .now) (getD xs (l .loop .j) 0) y (a .place-above .ensures .1) some) some (e .if1 .left ∙ i .id-at .ensures) ∙ l .loop .inv .1))
