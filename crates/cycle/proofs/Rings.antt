@@ -14,10 +14,10 @@ use lib.Seq.{take-suc, length-take-le, getD-take, getD-set-same, getD-set-other}
 use Rattle.model.specs.Lists.{bit, contains}
 use Rattle.model.specs.Table.{Member, membersIn, ids}
 use Rattle.model.specs.Ring.{nobody, reaches, onRing}
-use Rattle.laws.specs.Lists.{In, in-cons, in-nil, in-contains, contains-in, not-contains, true-or}
+use Rattle.laws.specs.Lists.{In, in-contains, contains-in, not-contains, true-or}
 use Rattle.laws.specs.Iterate.{iterate}
 use Rattle.laws.specs.Order.{equal?, less?}
-use Rattle.laws.specs.Places.{place-in}
+use Rattle.laws.specs.Places.{place-in, in-place}
 use Rattle.table.specs.Formed.{Formed}
 use Rattle.table.proofs.Members.{ids-count}
 use Rattle.ring.specs.Places.{nextPlace, BestPlaces}
@@ -29,14 +29,6 @@ same-test : (a b : Bool) → (a ≡ true → b ≡ true) → (b ≡ true → a �
 same-test true b h k = sym (h refl)
 same-test false true h k = k refl
 same-test false false h k = refl
-
-in-place : {x : ℕ} (l : List ℕ) → In x l → (k : ℕ) × (k < length l) × (getD l k 0 ≡ x)
-in-place [] m = absurd (in-nil m)
-in-place {x} (y ∷ l) m = go (in-cons m) (in-place l)
-  where
-    go : (x ≡ y) ⊎ In x l → (In x l → (k : ℕ) × (k < length l) × (getD l k 0 ≡ x)) → (k : ℕ) × (k < suc (length l)) × (getD (y ∷ l) k 0 ≡ x)
-    go (inl e) ih = (0, omega arith, sym e)
-    go (inr i) ih = let w = ih i in (suc (w .0), omega arith, w .2)
 
 -- `marks`: one number more
 
@@ -138,7 +130,7 @@ module _ (ws : List ℕ) where
 
         there? : contains (take n a) z ≡ true → contains (visits f n (f z)) z ≡ true
         there? e =
-            let w = in-place (take n a) (contains-in z (take n a) e) in
+            let w = in-place (contains-in z (take n a) e) in
             let l : w .0 < n = omega (arith, size) in
             let x : iterate f (p .moves) (w .0) ≡ z = sym (p .at (w .0) l) ∙ sym (getD-take n a (w .0) 0 l) ∙ w .2 in
             let m = far-back f n no-less (p .moves) (w .0) (p .enough) (omega arith) in

@@ -1,5 +1,5 @@
 -- The next members up and down by place in the words of a table; a list compared with the next up entry by entry; one member, and all of them. Assumes nothing.
-use Prim.Native.Nat.{ℕ, zero, suc, _+_, _*_, _-_, _≤_, _<_}
+use Prim.Native.Nat.{ℕ, suc, _+_, _*_, _-_, _≤_, _<_}
 use mathlib.Core.Path.{_≡_, refl, sym, ap, _∙_}
 use mathlib.Core.Bool.{Bool, true, false, _&&_, and-true, and-false}
 use mathlib.Core.List.{List, [], _∷_}
@@ -12,7 +12,7 @@ use borrow.Author.Tests.{eq-eqb, ne-eqb}
 use Rattle.model.specs.Lists.{every, same}
 use Rattle.model.specs.Table.{Member, headerSize, recordSize, tableOf, membersOf, membersIn, ids}
 use Rattle.model.specs.Ring.{nobody, nextUp, nextDown, nextUps, idealMember, ideal}
-use Rattle.laws.specs.Lists.{rising-true}
+use Rattle.laws.specs.Lists.{rising-true, ids-take, ids-drop}
 use Rattle.laws.specs.Places.{next-ups-place, above-inside, above-round, below-inside, below-round}
 use Rattle.laws.specs.Words.{members-length}
 use Rattle.table.specs.Formed.{Formed}
@@ -69,16 +69,6 @@ first-record r [] ws h = absurd (omega arith)
 first-record r (u ∷ p) ws h = refl
 
 -- The members above place k, where there are as many as a list has entries
-
-ids-take : (n : ℕ) (ms : List Member) → ids (take n ms) ≡ take n (ids ms)
-ids-take zero ms = refl
-ids-take (suc n) [] = refl
-ids-take (suc n) (m ∷ ms) = ap (λ (l : List ℕ). m .id ∷ l) (ids-take n ms)
-
-ids-drop : (n : ℕ) (ms : List Member) → ids (drop n ms) ≡ drop n (ids ms)
-ids-drop zero ms = refl
-ids-drop (suc n) [] = refl
-ids-drop (suc n) (m ∷ ms) = ids-drop n ms
 
 module _ (ws : List ℕ) (f : Formed ws) (k at n : ℕ) (few : k + 1 + n ≤ getD ws 1 0) (e : at ≡ headerSize + (k + 1) * recordSize (getD ws 0 0)) where
   pub ahead : ids (membersOf (getD ws 0 0) n (drop at ws)) ≡ nextUps n (ids (membersIn ws)) (getD (ids (membersIn ws)) k 0)

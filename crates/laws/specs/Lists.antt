@@ -3,9 +3,9 @@ use mathlib.Core.Path.{_≡_, refl, sym, ap, ap₂, _∙_}
 use mathlib.Core.Logic.{_⊎_, inl, inr}
 use mathlib.Core.Bool.{Bool, true, false, not, _&&_, _||_, true≢false, false≢true}
 use mathlib.Core.List.{List, [], _∷_, _++_}
-use Prim.Native.Nat.{ℕ, suc, _+_, _≤_, _<_}
+use Prim.Native.Nat.{ℕ, zero, suc, _+_, _≤_, _<_}
 use native.Mathlib.Omega.{arith}
-use lib.ListN.{length}
+use lib.ListN.{length, take, drop}
 use lib.Dec.{ltb, eqb}
 use borrow.Author.Tests.{eqb-true, eqb-false, eq-eqb, ne-eqb, ltb-true, lt-ltb}
 use Rattle.model.specs.Lists.{if_then_else_, every, any, select, bit, count, contains, risingFrom, rising, same}
@@ -332,6 +332,16 @@ in-ids (there i) = there (in-ids i)
 pub length-ids : (ms : List Member) → length (ids ms) ≡ length ms
 length-ids [] = refl
 length-ids (m ∷ ms) = ap suc (length-ids ms)
+
+pub ids-take : (n : ℕ) (ms : List Member) → ids (take n ms) ≡ take n (ids ms)
+ids-take zero ms = refl
+ids-take (suc n) [] = refl
+ids-take (suc n) (m ∷ ms) = ap (λ (l : List ℕ). m .id ∷ l) (ids-take n ms)
+
+pub ids-drop : (n : ℕ) (ms : List Member) → ids (drop n ms) ≡ drop n (ids ms)
+ids-drop zero ms = refl
+ids-drop (suc n) [] = refl
+ids-drop (suc n) (m ∷ ms) = ids-drop n ms
 
 -- the member with a live identifier is a member, and has it
 pub found : {x : ℕ} (ms : List Member) → In x (ids ms) → In (named ms x) ms × (named ms x .id ≡ x)

@@ -11,13 +11,22 @@ use borrow.Author.Tests.{lt-ltb, le-ltb}
 use Rattle.model.specs.Lists.{lastOf, rising}
 use Rattle.model.specs.Ring.{firstAbove, lastBelow, nextUp, nextDown, nextUps}
 use Rattle.laws.specs.Order.{less?}
-use Rattle.laws.specs.Lists.{In, here, there, in-cons, in-nil, Rising, rising-true, above-in}
+use Rattle.laws.specs.Lists.{In, here, there, in-cons, in-nil, NoDup, Rising, rising-true, above-in}
 use Rattle.laws.specs.Extended.{last-cons}
 
 pub place-in : (l : List ℕ) (k : ℕ) → k < length l → In (getD l k 0) l
 place-in [] k h = absurd (omega arith)
 place-in (y ∷ l) zero h = here refl
 place-in (y ∷ l) (suc k) h = there (place-in l k (omega arith))
+
+pub in-place : {x : ℕ} {l : List ℕ} → In x l → (k : ℕ) × (k < length l) × (getD l k 0 ≡ x)
+in-place (here e) = (0, omega arith, sym e)
+in-place (there m) = let w = in-place m in (suc (w .0), omega (arith, w .1), w .2)
+
+-- where no two places have the same, no element stands twice
+pub places-nodup : (l : List ℕ) → ((i j : ℕ) → i < j → j < length l → getD l i 0 ≡ getD l j 0 → ⊥) → NoDup l
+places-nodup [] h = tt
+places-nodup (x ∷ l) h = (λ m. let w = in-place m in h 0 (suc (w .0)) (omega arith) (omega (arith, w .1)) (sym (w .2)), places-nodup l (λ i j p q. h (suc i) (suc j) (omega arith) (omega arith)))
 
 -- the first of rising identifiers is the lowest, the last the highest
 pub first-least : {q : ℕ} (xs : List ℕ) → Rising xs → In q xs → getD xs 0 0 ≤ q

@@ -1,10 +1,10 @@
 -- What verdict 2 allows: k withdrawals of different members, one after the other, are all granted, if k is at most r - 1 and at most members - r - 1.
-use mathlib.Core.Path.{_≡_, refl, sym, ap}
+use mathlib.Core.Path.{_≡_, refl, ap}
 use mathlib.Core.Bool.{true, false, not}
 use mathlib.Core.List.{List, [], _∷_, _++_, map}
 use Prim.Native.Nat.{ℕ, suc, _+_, _-_, _≤_, _<_}
 use native.Mathlib.Omega.{arith}
-use lib.ListN.{length, getD}
+use lib.ListN.{length}
 use borrow.Author.Tests.{le-ltb}
 use Rattle.model.specs.Lists.{every, count}
 use Rattle.model.specs.Identifier.{space}
@@ -17,6 +17,7 @@ use Rattle.model.specs.Calls.{leaveAnswer, leaveWords}
 use Rattle.model.specs.Run.{Leave, callWords, run}
 use Rattle.laws.specs.Lists.{In, here, there, NoDup, count-le, count-all, count-length, count-but-one, count-any, every-in, in-every, rising-nodup, length-ids, named-in, in-ids, live-in, in-live}
 use Rattle.laws.specs.Tables.{Formed, Sound, Ideal, wellFormed-facts, sound-facts, ideal-facts}
+use Rattle.laws.specs.Places.{places-nodup}
 use Rattle.laws.specs.Verdicts.{verdict-facts}
 use Rattle.laws.specs.Removed.{removed-from, removed-ids, removed-keeps, removed-length}
 use Rattle.theory.specs.Claim.{InRingOrder}
@@ -78,18 +79,9 @@ without-spare k n T i s = record {
 
 -- A sound and ideal table of m members can lose r - 1, and m - r - 1
 
--- entries that differ place by place
-in-place : {x : ℕ} {l : List ℕ} → In x l → (j : ℕ) × (j < length l) × (getD l j 0 ≡ x)
-in-place (here e) = (0, omega arith, sym e)
-in-place (there m) = let w = in-place m in (suc (w .0), omega (arith, w .1), w .2)
-
-apart-nodup : (l : List ℕ) → ((i j : ℕ) → i < j → j < length l → getD l i 0 ≡ getD l j 0 → ⊥) → NoDup l
-apart-nodup [] h = tt
-apart-nodup (x ∷ l) h = (λ m. let w = in-place m in h 0 (suc (w .0)) (omega arith) (omega (arith, w .1)) (sym (w .2)), apart-nodup l (λ i j p q. h (suc i) (suc j) (omega arith) (omega arith)))
-
 ideal-spare : (k : ℕ) (T : Table) → Formed space T → Sound T → Ideal T → k < T .r → k + (T .r + 1) ≤ length (T .members) → Spare k T
 ideal-spare k T fo so d few enough = record {
-  different = λ m i. apart-nodup (m .id ∷ m .successors) (ordered m i .different) .1;
+  different = λ m i. places-nodup (m .id ∷ m .successors) (ordered m i .different) .1;
   lively = λ m i. omega (arith, fo .each m i .list-length, count-all (m .successors), count-le (λ x. true) (live (T .members)) (m .successors) (λ x j e. in-live (T .members) (entry m i j)));
   unskipped = λ q j m i. rw (d .each m i .list) (ups-skip (ids (T .members)) (fo .ids-rising) (T .r) (m .id) q j);
   many = enough;
