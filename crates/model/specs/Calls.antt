@@ -14,7 +14,8 @@ use Rattle.model.specs.Alike.{alike}
 use Rattle.model.specs.Image.{imageOf, tableIn}
 use Rattle.model.specs.Held.{runsOf, bounds}
 use Rattle.model.specs.Pairs.{principalReply}
-use Rattle.model.specs.Refusals.{joinRefusal, memberRefusal, leaveRefusal, auditRefusal, findingsRefusal, alikeRefusal, newRefusal, writeRefusal, readRefusal, heldRefusal}
+use Rattle.model.specs.Settle.{afterRound, afterSettle, roundReply, settleReply}
+use Rattle.model.specs.Refusals.{joinRefusal, memberRefusal, leaveRefusal, auditRefusal, findingsRefusal, alikeRefusal, newRefusal, writeRefusal, readRefusal, heldRefusal, settleRefusal}
 
 -- a slice with the table T in the place of its old table, and all later words as they were
 abbrev pub written : Table → List ℕ → List ℕ
@@ -120,3 +121,19 @@ heldAnswer ws n ks = answer (heldRefusal ws n ks) (accepted (bounds (runsOf (mem
 
 unfoldable pub principalAnswer : List ℕ → ℕ → Answer
 principalAnswer ws n = answer (memberRefusal ws n) (accepted (principalReply (membersIn ws) n))
+
+-- One round
+
+unfoldable pub roundAnswer : List ℕ → Answer
+roundAnswer ws = answer (settleRefusal ws) (accepted (roundReply space (tableOf ws)))
+
+unfoldable pub roundWords : List ℕ → List ℕ
+roundWords ws = afterwards (settleRefusal ws) (written (afterRound space (tableOf ws)) ws) ws
+
+-- Settle, with at most so many rounds
+
+unfoldable pub settleAnswer : List ℕ → ℕ → Answer
+settleAnswer ws limit = answer (settleRefusal ws) (accepted (settleReply space limit (tableOf ws)))
+
+unfoldable pub settleWords : List ℕ → ℕ → List ℕ
+settleWords ws limit = afterwards (settleRefusal ws) (written (afterSettle space limit (tableOf ws)) ws) ws

@@ -1,4 +1,4 @@
--- Document 01 as definitions, in its order, and then what document 02 adds: Held, Pairs.
+-- Document 01 as definitions, in its order, and then what document 02 adds: Held, Pairs, Settle.
 pub mod Lists
 pub mod Identifier
 pub mod Table
@@ -12,6 +12,7 @@ pub mod TakeOver
 pub mod Image
 pub mod Held
 pub mod Pairs
+pub mod Settle
 pub mod Refusals
 pub mod Calls
 pub mod Run

@@ -7,7 +7,7 @@ use lib.ListN.{length}
 use Rattle.model.specs.Lists.{every, rising}
 use Rattle.model.specs.Identifier.{between}
 use Rattle.model.specs.Table.{Table, tableOf, membersIn, size, recordSize, wellFormed}
-use Rattle.model.specs.Ring.{live, named, successor, hasLive, principals}
+use Rattle.model.specs.Ring.{live, named, successor, hasLive, principals, sound}
 use Rattle.model.specs.Answer.{_when_, firstOf}
 use Rattle.model.specs.Steps.{without}
 use Rattle.model.specs.New.{newTable}
@@ -93,3 +93,9 @@ heldRefusal ws n ks = firstOf (
     (1 when not (wellFormed ws)) ∷
     (3 when not (live (membersIn ws) n)) ∷
     (12 when not (rising ks)) ∷ [])
+
+-- a round, and settle: 14, the table is not sound
+unfoldable pub settleRefusal : List ℕ → ℕ
+settleRefusal ws = firstOf (
+    (1 when not (wellFormed ws)) ∷
+    (14 when not (sound (tableOf ws))) ∷ [])

@@ -39,11 +39,19 @@ pub record Changed (ms : List Member) (v : Member) (ns : List Member) : Type 0 w
 live-stays : (ms ns : List Member) (l : List ℕ) → ((x : ℕ) → In x (ids ms) → In x (ids ns)) → any (live ms) l ≡ true → any (live ns) l ≡ true
 live-stays ms ns l sub h = let w = any-in (live ms) l h in in-any (live ns) (w .1) (in-live ns (sub (w .0) (live-in ms (w .0) (w .2))))
 
--- the one lemma: the principals stay principals, for neither the old lists nor the fresh one skip them
+-- the principals stay principals, for neither the old lists nor the fresh one skip them
+pub changed-principal : (w : ℕ) (T : Table) (v : Member) (ns : List Member) → Fresh w T v → Changed (T .members) v ns → (q : ℕ) → In q (ids (T .members)) → principal (T .members) q ≡ true → principal ns q ≡ true
+changed-principal w T v ns f c q k h = in-every (λ m. not (skips q (m .id) (m .successors))) ns (λ m i. spared m (c .from m i))
+  where
+    spared : (m : Member) → (m ≡ v) ⊎ In m (T .members) → not (skips q (m .id) (m .successors)) ≡ true
+    spared m (inl e) = rw e (ap not (f .spares q k h))
+    spared m (inr i) = every-in (λ m. not (skips q (m .id) (m .successors))) h i
+
+-- so, the one lemma: the table stays sound
 pub changed-sound : (w : ℕ) (T : Table) (v : Member) (ns : List Member) → Sound T → Fresh w T v → Changed (T .members) v ns → Sound (withMembers ns T)
 changed-sound w T v ns s f c = record {
   live-entry = λ m i. lively m (c .from m i);
-  enough = omega (arith, s .enough, c .counts (principal ns), count-le (principal (T .members)) (principal ns) (ids (T .members)) stays);
+  enough = omega (arith, s .enough, c .counts (principal ns), count-le (principal (T .members)) (principal ns) (ids (T .members)) (changed-principal w T v ns f c));
   candidate-inside = λ m i. inside m (c .from m i);
 }
   where
@@ -54,13 +62,6 @@ changed-sound w T v ns s f c = record {
     inside : (m : Member) → (m ≡ v) ⊎ In m (T .members) → candidateInside m ≡ true
     inside m (inl e) = rw e (f .candidate-inside)
     inside m (inr i) = s .candidate-inside m i
-
-    spared : (q : ℕ) → In q (ids (T .members)) → principal (T .members) q ≡ true → (m : Member) → (m ≡ v) ⊎ In m (T .members) → not (skips q (m .id) (m .successors)) ≡ true
-    spared q k h m (inl e) = rw e (ap not (f .spares q k h))
-    spared q k h m (inr i) = every-in (λ m. not (skips q (m .id) (m .successors))) h i
-
-    stays : (q : ℕ) → In q (ids (T .members)) → principal (T .members) q ≡ true → principal ns q ≡ true
-    stays q k h = in-every (λ m. not (skips q (m .id) (m .successors))) ns (λ m i. spared q k h m (c .from m i))
 
 pub changed-formed : (w : ℕ) (T : Table) (v : Member) (ns : List Member) → Formed w T → FormedMember w (T .r) v → Changed (T .members) v ns → length ns ≤ 256 → Rising (ids ns) → Formed w (withMembers ns T)
 changed-formed w T v ns t f c few rise = record {

@@ -19,4 +19,5 @@ pub mod Held
 pub mod Pairs
 pub mod Moves
 pub mod Images
+pub mod Turns
 pub mod Demand3

@@ -1,0 +1,69 @@
+-- Document 02, Req 05: a member's turn, a round of turns, and rounds until the table is ideal; all made of the steps of Steps.
+use Prim.Native.Nat.{ℕ, zero, suc}
+use mathlib.Core.Bool.{Bool}
+use mathlib.Core.List.{List, [], _∷_}
+use lib.Dec.{eqb}
+use lib.ListN.{getD}
+use Rattle.model.specs.Lists.{if_then_else_}
+use Rattle.model.specs.Table.{Table, ids}
+use Rattle.model.specs.Ring.{live, named, isPending, verdict}
+use Rattle.model.specs.Steps.{stabilizeReply, stabilized, rectified}
+
+-- the notice of n is delivered to h, which rectifies; a notice to a non-member is lost
+unfoldable pub delivered : ℕ → ℕ → Table → Table
+delivered n h T = if live (T .members) h then rectified h n T else T
+
+-- what the next stabilize step of n replies
+abbrev pub nextReply : ℕ → Table → List ℕ
+nextReply n T = stabilizeReply (T .members) (named (T .members) n)
+
+-- it replies "done"
+abbrev pub isDone : ℕ → Table → Bool
+isDone n T = eqb (getD (nextReply n T) 0 0) 2
+
+-- a stabilize step of n that replies "done" and h, and its notice delivered to h
+unfoldable pub lastStep : ℕ → ℕ → Table → Table
+lastStep w n T = delivered n (getD (nextReply n T) 1 0) (stabilized w n T)
+
+-- a pending step of n, which always replies "done", is finished and its notice delivered
+unfoldable pub finished : ℕ → ℕ → Table → Table
+finished w n T = if isPending (named (T .members) n) then lastStep w n T else T
+
+-- stabilize steps of n until one replies "done", and its notice delivered. The number k bounds the steps: on a sound table r + 1 are enough
+abbrev pub untilDone : ℕ → ℕ → ℕ → Table → Table
+untilDone w zero n T = T
+untilDone w (suc k) n T = if isDone n T then lastStep w n T else untilDone w k n (stabilized w n T)
+
+-- the table after a turn of n: first a pending step finished, then steps until "done"
+unfoldable pub afterTurn : ℕ → ℕ → Table → Table
+afterTurn w n T = untilDone w (suc (T .r)) n (finished w n T)
+
+-- after turns of the members ns, in order
+abbrev pub afterTurns : ℕ → List ℕ → Table → Table
+afterTurns w [] T = T
+afterTurns w (n ∷ ns) T = afterTurns w ns (afterTurn w n T)
+
+-- after a round: the turn of each member, by rising identifier
+unfoldable pub afterRound : ℕ → Table → Table
+afterRound w T = afterTurns w (ids (T .members)) T
+
+-- after k rounds
+abbrev pub afterRounds : ℕ → ℕ → Table → Table
+afterRounds w zero T = T
+afterRounds w (suc k) T = afterRounds w k (afterRound w T)
+
+-- how many rounds settle runs: the verdict is looked at before each, and 2 ends it, or so many rounds run
+abbrev pub roundsRun : ℕ → ℕ → Table → ℕ
+roundsRun w zero T = 0
+roundsRun w (suc limit) T = if eqb (verdict T) 2 then 0 else suc (roundsRun w limit (afterRound w T))
+
+-- the table after settle
+abbrev pub afterSettle : ℕ → ℕ → Table → Table
+afterSettle w limit T = afterRounds w (roundsRun w limit T) T
+
+-- a round replies the verdict after it; settle the rounds run and the verdict
+abbrev pub roundReply : ℕ → Table → List ℕ
+roundReply w T = verdict (afterRound w T) ∷ []
+
+abbrev pub settleReply : ℕ → ℕ → Table → List ℕ
+settleReply w limit T = roundsRun w limit T ∷ verdict (afterSettle w limit T) ∷ []

@@ -1,0 +1,233 @@
+-- What the steps and notices of one member n may change of a table, and so a turn of n, and turns of several members: sound stays sound, the
+-- principals stay principals, no other member's list or pending moves, and a live predecessor gives way only to a member between.
+use mathlib.Core.Path.{_≡_, refl, sym, ap, subst, _∙_}
+use mathlib.Core.Logic.{_⊎_, inl, inr}
+use mathlib.Core.Bool.{Bool, true, false, not, _||_}
+use mathlib.Core.List.{List, [], _∷_}
+use Prim.Native.Nat.{ℕ, zero, suc, _<_}
+use native.Mathlib.Omega.{arith}
+use lib.Dec.{eqb}
+use lib.ListN.{getD}
+use borrow.Author.Tests.{eqb-true, eqb-false, not-true}
+use Rattle.model.specs.Lists.{if_then_else_, contains}
+use Rattle.model.specs.Identifier.{between}
+use Rattle.model.specs.Table.{Member, Table, ids}
+use Rattle.model.specs.Ring.{live, named, successor, isPending, principal}
+use Rattle.model.specs.Steps.{withPredecessor, adopt, awaitCandidate, clearPending, dropHead, offered, isBetter, stabilizeFromSuccessor, stabilizeFromPredecessor, stabilize, replaced, stabilized, renews, rectifyIn, rectified}
+use Rattle.model.specs.Settle.{delivered, nextReply, isDone, lastStep, finished, untilDone, afterTurn, afterTurns, afterRound, afterRounds}
+use Rattle.laws.specs.Order.{equal?, Inside, true-inside}
+use Rattle.laws.specs.Lists.{In, here, there, or-true, found, live-in, in-live}
+use Rattle.laws.specs.Stabilize.{same-id}
+use Rattle.theory.specs.Keep.{Kept, Fresh, changed-principal, replaced-ids, replaced-named, replaced-others, replaced-changed}
+use Rattle.theory.specs.Steps.{stabilize-fresh, stabilized-kept, rectify-fresh, rectified-kept}
+
+-- the predecessor p of x stays, or becomes n, which is between p and x, or p is no member
+pub data Predecessor (ms : List Member) (n x p q : ℕ) : Type 0 where
+  stays : q ≡ p → Predecessor ms n x p q
+  dead : q ≡ n → live ms p ≡ false → Predecessor ms n x p q
+  nearer : q ≡ n → Inside p n x → Predecessor ms n x p q
+
+-- the list and what is pending are as they were
+pub record SameList (u v : Member) : Type 0 where
+  pub list : u .successors ≡ v .successors
+  pub is-pending : isPending u ≡ isPending v
+
+-- what turns keep of the table T
+pub record Lasts (w : ℕ) (T T' : Table) : Type 0 where
+  pub kept : Kept w T'
+  pub same-r : T' .r ≡ T .r
+  pub same-ids : ids (T' .members) ≡ ids (T .members)
+  pub principals-stay : (q : ℕ) → In q (ids (T .members)) → principal (T .members) q ≡ true → principal (T' .members) q ≡ true
+
+-- T' is T after steps and notices of n
+pub record Acted (w n : ℕ) (T T' : Table) : Type 0 where
+  pub lasts : Lasts w T T'
+  pub others : (x : ℕ) → (x ≡ n → ⊥) → SameList (named (T' .members) x) (named (T .members) x)
+  pub predecessors : (x : ℕ) → Predecessor (T .members) n x (named (T .members) x .predecessor) (named (T' .members) x .predecessor)
+
+pub lasts-none : (w : ℕ) (T : Table) → Kept w T → Lasts w T T
+lasts-none w T k = record { kept = k; same-r = refl; same-ids = refl; principals-stay = λ q i h. h }
+
+pub lasts-trans : {w : ℕ} {T U X : Table} → Lasts w T U → Lasts w U X → Lasts w T X
+lasts-trans a b = record { kept = b .kept; same-r = b .same-r ∙ a .same-r; same-ids = b .same-ids ∙ a .same-ids; principals-stay = λ q i h. b .principals-stay q (rw (a .same-ids) i) (a .principals-stay q i h) }
+
+acted-none : (w n : ℕ) (T : Table) → Kept w T → Acted w n T T
+acted-none w n T k = record { lasts = lasts-none w T k; others = λ x d. record { list = refl; is-pending = refl }; predecessors = λ x. stays refl }
+
+predecessor-trans : (ms ns : List Member) (n x p q s : ℕ) → ids ns ≡ ids ms → Predecessor ms n x p q → Predecessor ns n x q s → Predecessor ms n x p s
+predecessor-trans ms ns n x p q s e (stays a) (stays b) = stays (b ∙ a)
+predecessor-trans ms ns n x p q s e (stays a) (dead b d) = dead b (subst (λ (xs : List ℕ). contains xs p ≡ false) e (subst (λ (z : ℕ). live ns z ≡ false) a d))
+predecessor-trans ms ns n x p q s e (stays a) (nearer b i) = nearer b (subst (λ (z : ℕ). Inside z n x) a i)
+predecessor-trans ms ns n x p q s e (dead a d) (stays b) = dead (b ∙ a) d
+predecessor-trans ms ns n x p q s e (dead a d) (dead b c) = dead b d
+predecessor-trans ms ns n x p q s e (dead a d) (nearer b i) = dead b d
+predecessor-trans ms ns n x p q s e (nearer a i) (stays b) = nearer (b ∙ a) i
+predecessor-trans ms ns n x p q s e (nearer a i) (dead b c) = nearer b i
+predecessor-trans ms ns n x p q s e (nearer a i) (nearer b j) = nearer b i
+
+acted-trans : {w n : ℕ} {T U X : Table} → Acted w n T U → Acted w n U X → Acted w n T X
+acted-trans {w} {n} {T} {U} {X} a b = record {
+  lasts = lasts-trans (a .lasts) (b .lasts);
+  others = λ x d. record { list = b .others x d .list ∙ a .others x d .list; is-pending = b .others x d .is-pending ∙ a .others x d .is-pending };
+  predecessors = λ x. predecessor-trans (T .members) (U .members) n x _ _ _ (a .lasts .same-ids) (a .predecessors x) (b .predecessors x);
+}
+
+-- What the steps and notices leave of a record
+
+-- a step writes no predecessor
+same-predecessor : (w : ℕ) (ms : List Member) (m : Member) → stabilize w ms m .predecessor ≡ m .predecessor
+unfolding stabilize stabilizeFromSuccessor stabilizeFromPredecessor
+same-predecessor w ms m = go (isPending m) (live ms (m .candidate)) (live ms (successor m)) (isBetter ms m)
+  where
+    go : (a b d e : Bool) → (if a then clearPending (if b then adopt (m .candidate) (named ms (m .candidate) .successors) m else m) else if d then (if e then awaitCandidate (offered ms m) (adopt (successor m) (named ms (successor m) .successors) m) else adopt (successor m) (named ms (successor m) .successors) m) else dropHead w m) .predecessor ≡ m .predecessor
+    go true true d e = refl
+    go true false d e = refl
+    go false b true true = refl
+    go false b true false = refl
+    go false b false e = refl
+
+-- a notice writes nothing else, and by its rule
+rectify-id : (ms : List Member) (q : ℕ) (m : Member) → rectifyIn ms q m .id ≡ m .id
+rectify-id ms q m = go (renews (live ms (m .predecessor)) q m)
+  where
+    go : (b : Bool) → (if b then withPredecessor q m else m) .id ≡ m .id
+    go true = refl
+    go false = refl
+
+rectify-list : (ms : List Member) (q : ℕ) (m : Member) → SameList (rectifyIn ms q m) m
+rectify-list ms q m = go (renews (live ms (m .predecessor)) q m)
+  where
+    go : (b : Bool) → SameList (if b then withPredecessor q m else m) m
+    go true = record { list = refl; is-pending = refl }
+    go false = record { list = refl; is-pending = refl }
+
+rectify-predecessor : (ms : List Member) (q x : ℕ) (m : Member) → m .id ≡ x → Predecessor ms q x (m .predecessor) (rectifyIn ms q m .predecessor)
+unfolding renews
+rectify-predecessor ms q x m e = go (between (m .predecessor) q (m .id)) refl (live ms (m .predecessor)) refl
+  where
+    go : (a : Bool) → between (m .predecessor) q (m .id) ≡ a → (b : Bool) → live ms (m .predecessor) ≡ b → Predecessor ms q x (m .predecessor) ((if a || not b then withPredecessor q m else m) .predecessor)
+    go true ea b eb = nearer refl (rw e at (true-inside (m .predecessor) q (m .id) ea))
+    go false ea true eb = stays refl
+    go false ea false eb = dead refl eb
+
+module _ (w : ℕ) (T : Table) (k : Kept w T) (n : ℕ) (i : In n (ids (T .members))) where
+  small : n < w
+  small = let f = found (T .members) i in omega (arith, k .formed .each (named (T .members) n) (f .0) .id-small, f .1)
+
+  -- one record in its place
+  module _ (v : Member) (e : v .id ≡ n) where
+    placed : named (replaced v (T .members)) n ≡ v
+    placed = subst (λ (x : ℕ). named (replaced v (T .members)) x ≡ v) e (replaced-named v (T .members) (subst (λ (x : ℕ). In x (ids (T .members))) (sym e) i))
+
+    elsewhere : (x : ℕ) → (x ≡ n → ⊥) → named (replaced v (T .members)) x ≡ named (T .members) x
+    elsewhere x d = replaced-others v x (T .members) (λ q. d (sym q ∙ e))
+
+    at-place : (P : ℕ → Member → Type 0) → P n v → ((x : ℕ) → (x ≡ n → ⊥) → P x (named (T .members) x)) → (x : ℕ) → P x (named (replaced v (T .members)) x)
+    at-place P own left x = go (equal? x n)
+      where
+        go : (x ≡ n) ⊎ (x ≡ n → ⊥) → P x (named (replaced v (T .members)) x)
+        go (inl q) = rw (q, placed) own
+        go (inr d) = rw (elsewhere x d) (left x d)
+
+  -- a stabilize step of n
+
+  stepped-id : stabilize w (T .members) (named (T .members) n) .id ≡ n
+  stepped-id = same-id (T .members) (named (T .members) n) w ∙ found (T .members) i .1
+
+  pub stepped-named : named (stabilized w n T .members) n ≡ stabilize w (T .members) (named (T .members) n)
+  stepped-named = placed (stabilize w (T .members) (named (T .members) n)) stepped-id
+
+  pub acted-step : Acted w n T (stabilized w n T)
+  acted-step =
+      let ms = T .members in
+      let v = stabilize w ms (named ms n) in
+      record {
+        lasts = record { kept = stabilized-kept w T k n (in-live ms i); same-r = refl; same-ids = replaced-ids v ms; principals-stay = changed-principal w T v (replaced v ms) (stabilize-fresh w T k (named ms n) (found ms i .0)) (replaced-changed v ms) };
+        others = λ x d. rw (elsewhere v stepped-id x d) (record { list = refl; is-pending = refl });
+        predecessors = at-place v stepped-id (λ x m. Predecessor ms n x (named ms x .predecessor) (m .predecessor)) (stays (same-predecessor w ms (named ms n))) (λ x d. stays refl);
+      }
+
+  -- a notice of q to n
+
+  noticed-id : (q : ℕ) → rectifyIn (T .members) q (named (T .members) n) .id ≡ n
+  noticed-id q = rectify-id (T .members) q (named (T .members) n) ∙ found (T .members) i .1
+
+  pub noticed-named : (q : ℕ) → named (rectified n q T .members) n ≡ rectifyIn (T .members) q (named (T .members) n)
+  noticed-named q = placed (rectifyIn (T .members) q (named (T .members) n)) (noticed-id q)
+
+  -- it changes no list
+  noticed-list : (q x : ℕ) → SameList (named (rectified n q T .members) x) (named (T .members) x)
+  noticed-list q = at-place (rectifyIn (T .members) q (named (T .members) n)) (noticed-id q) (λ x m. SameList m (named (T .members) x)) (rectify-list (T .members) q (named (T .members) n)) (λ x d. record { list = refl; is-pending = refl })
+
+  acted-notice : (q : ℕ) → q < w → Acted w q T (rectified n q T)
+  acted-notice q hq =
+      let ms = T .members in
+      let v = rectifyIn ms q (named ms n) in
+      record {
+        lasts = record { kept = rectified-kept w T k n q hq (in-live ms i); same-r = refl; same-ids = replaced-ids v ms; principals-stay = changed-principal w T v (replaced v ms) (rectify-fresh w T k (named ms n) (found ms i .0) q hq) (replaced-changed v ms) };
+        others = λ x d. noticed-list q x;
+        predecessors = at-place v (noticed-id q) (λ x m. Predecessor ms q x (named ms x .predecessor) (m .predecessor)) (rectify-predecessor ms q n (named ms n) (found ms i .1)) (λ x d. stays refl);
+      }
+
+-- A turn
+
+module _ (w n : ℕ) where
+  -- a notice delivered, or lost
+  pub acted-delivered : (h : ℕ) (T : Table) → Kept w T → In n (ids (T .members)) → Acted w n T (delivered n h T)
+  unfolding delivered
+  acted-delivered h T k i = go (live (T .members) h) refl
+    where
+      go : (b : Bool) → live (T .members) h ≡ b → Acted w n T (if b then rectified h n T else T)
+      go true e = acted-notice w T k h (live-in (T .members) h e) n (small w T k n i)
+      go false e = acted-none w n T k
+
+  -- it changes no list
+  pub delivered-list : (h : ℕ) (T : Table) → Kept w T → (x : ℕ) → SameList (named (delivered n h T .members) x) (named (T .members) x)
+  unfolding delivered
+  delivered-list h T k x = go (live (T .members) h) refl
+    where
+      go : (b : Bool) → live (T .members) h ≡ b → SameList (named ((if b then rectified h n T else T) .members) x) (named (T .members) x)
+      go true e = noticed-list w T k h (live-in (T .members) h e) n x
+      go false e = record { list = refl; is-pending = refl }
+
+  -- n is a member still
+  stays-in : {T T' : Table} → Acted w n T T' → In n (ids (T .members)) → In n (ids (T' .members))
+  stays-in a i = rw (a .lasts .same-ids) i
+
+  acted-last : (T : Table) → Kept w T → In n (ids (T .members)) → Acted w n T (lastStep w n T)
+  unfolding lastStep
+  acted-last T k i = let a = acted-step w T k n i in acted-trans a (acted-delivered _ (stabilized w n T) (a .lasts .kept) (stays-in a i))
+
+  acted-finished : (T : Table) → Kept w T → In n (ids (T .members)) → Acted w n T (finished w n T)
+  unfolding finished
+  acted-finished T k i = go (isPending (named (T .members) n))
+    where
+      go : (b : Bool) → Acted w n T (if b then lastStep w n T else T)
+      go true = acted-last T k i
+      go false = acted-none w n T k
+
+  acted-until : (f : ℕ) (T : Table) → Kept w T → In n (ids (T .members)) → Acted w n T (untilDone w f n T)
+  acted-until zero T k i = acted-none w n T k
+  acted-until (suc f) T k i = go (isDone n T) (acted-until f (stabilized w n T))
+    where
+      go : (b : Bool) → (Kept w (stabilized w n T) → In n (ids (stabilized w n T .members)) → Acted w n (stabilized w n T) (untilDone w f n (stabilized w n T))) → Acted w n T (if b then lastStep w n T else untilDone w f n (stabilized w n T))
+      go true ih = acted-last T k i
+      go false ih = let a = acted-step w T k n i in acted-trans a (ih (a .lasts .kept) (stays-in a i))
+
+  pub acted-turn : (T : Table) → Kept w T → In n (ids (T .members)) → Acted w n T (afterTurn w n T)
+  unfolding afterTurn
+  acted-turn T k i = let a = acted-finished T k i in acted-trans a (acted-until (suc (T .r)) (finished w n T) (a .lasts .kept) (stays-in a i))
+
+-- Turns and rounds
+
+pub turns-last : (w : ℕ) (ns : List ℕ) (T : Table) → Kept w T → ((n : ℕ) → In n ns → In n (ids (T .members))) → Lasts w T (afterTurns w ns T)
+turns-last w [] T k f = lasts-none w T k
+turns-last w (n ∷ ns) T k f = let a = acted-turn w n T k (f n (here refl)) .lasts in lasts-trans a (turns-last w ns (afterTurn w n T) (a .kept) (λ m i. rw (a .same-ids) (f m (there i))))
+
+pub round-lasts : (w : ℕ) (T : Table) → Kept w T → Lasts w T (afterRound w T)
+unfolding afterRound
+round-lasts w T k = turns-last w (ids (T .members)) T k (λ n i. i)
+
+pub rounds-last : (w j : ℕ) (T : Table) → Kept w T → Lasts w T (afterRounds w j T)
+rounds-last w zero T k = lasts-none w T k
+rounds-last w (suc j) T k = let a = round-lasts w T k in lasts-trans a (rounds-last w j (afterRound w T) (a .kept))
