@@ -45,11 +45,11 @@ pub record Clears (n most : ℕ) (ws : List ℕ) : Type 0 where
 -- Lists and members
 
 -- the entry at place i of a list is one of the identifiers
-record LiveAt (xs l : List ℕ) (i : ℕ) : Type 0 where
-  inside : i < length l
-  lives : contains xs (getD l i 0) ≡ true
+pub record LiveAt (xs l : List ℕ) (i : ℕ) : Type 0 where
+  pub inside : i < length l
+  pub lives : contains xs (getD l i 0) ≡ true
 
-live-at : (xs l : List ℕ) → any (contains xs) l ≡ true → (i : ℕ) × LiveAt xs l i
+pub live-at : (xs l : List ℕ) → any (contains xs) l ≡ true → (i : ℕ) × LiveAt xs l i
 live-at xs [] h = let q : _≡_ {A = ℕ} 0 1 = cc in absurd (omega arith)
 live-at xs (x ∷ l) h = go (or-true (contains xs x) _ h) (live-at xs l)
   where
@@ -58,7 +58,7 @@ live-at xs (x ∷ l) h = go (or-true (contains xs x) _ h) (live-at xs l)
     go (inr e) ih = let w = ih e in (suc (w .0), record { inside = omega (arith, w .1 .inside); lives = w .1 .lives })
 
 -- where the first entry is dropped, it stands one place further in front
-in-front : (xs l : List ℕ) (z i : ℕ) → LiveAt xs l (suc i) → LiveAt xs (drop 1 l ++ (z ∷ [])) i
+pub in-front : (xs l : List ℕ) (z i : ℕ) → LiveAt xs l (suc i) → LiveAt xs (drop 1 l ++ (z ∷ [])) i
 in-front xs [] z i a = absurd (omega (arith, a .inside))
 in-front xs (x ∷ l) z i a = record { inside = rw length-append (omega (arith, a .inside)); lives = ap (contains xs) (List·getD-append l (z ∷ []) 0 i (omega (arith, a .inside))) ∙ a .lives }
 

@@ -20,4 +20,6 @@ pub mod Pairs
 pub mod Moves
 pub mod Images
 pub mod Turns
+pub mod Bound
+pub mod Calm
 pub mod Demand3

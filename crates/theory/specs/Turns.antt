@@ -111,7 +111,7 @@ rectify-predecessor ms q x m e = go (between (m .predecessor) q (m .id)) refl (l
     go false ea false eb = dead refl eb
 
 module _ (w : ℕ) (T : Table) (k : Kept w T) (n : ℕ) (i : In n (ids (T .members))) where
-  small : n < w
+  pub small : n < w
   small = let f = found (T .members) i in omega (arith, k .formed .each (named (T .members) n) (f .0) .id-small, f .1)
 
   -- one record in its place
@@ -156,10 +156,10 @@ module _ (w : ℕ) (T : Table) (k : Kept w T) (n : ℕ) (i : In n (ids (T .membe
   noticed-named q = placed (rectifyIn (T .members) q (named (T .members) n)) (noticed-id q)
 
   -- it changes no list
-  noticed-list : (q x : ℕ) → SameList (named (rectified n q T .members) x) (named (T .members) x)
+  pub noticed-list : (q x : ℕ) → SameList (named (rectified n q T .members) x) (named (T .members) x)
   noticed-list q = at-place (rectifyIn (T .members) q (named (T .members) n)) (noticed-id q) (λ x m. SameList m (named (T .members) x)) (rectify-list (T .members) q (named (T .members) n)) (λ x d. record { list = refl; is-pending = refl })
 
-  acted-notice : (q : ℕ) → q < w → Acted w q T (rectified n q T)
+  pub acted-notice : (q : ℕ) → q < w → Acted w q T (rectified n q T)
   acted-notice q hq =
       let ms = T .members in
       let v = rectifyIn ms q (named ms n) in
@@ -191,14 +191,14 @@ module _ (w n : ℕ) where
       go false e = record { list = refl; is-pending = refl }
 
   -- n is a member still
-  stays-in : {T T' : Table} → Acted w n T T' → In n (ids (T .members)) → In n (ids (T' .members))
+  pub stays-in : {T T' : Table} → Acted w n T T' → In n (ids (T .members)) → In n (ids (T' .members))
   stays-in a i = rw (a .lasts .same-ids) i
 
-  acted-last : (T : Table) → Kept w T → In n (ids (T .members)) → Acted w n T (lastStep w n T)
+  pub acted-last : (T : Table) → Kept w T → In n (ids (T .members)) → Acted w n T (lastStep w n T)
   unfolding lastStep
   acted-last T k i = let a = acted-step w T k n i in acted-trans a (acted-delivered _ (stabilized w n T) (a .lasts .kept) (stays-in a i))
 
-  acted-finished : (T : Table) → Kept w T → In n (ids (T .members)) → Acted w n T (finished w n T)
+  pub acted-finished : (T : Table) → Kept w T → In n (ids (T .members)) → Acted w n T (finished w n T)
   unfolding finished
   acted-finished T k i = go (isPending (named (T .members) n))
     where
@@ -206,7 +206,7 @@ module _ (w n : ℕ) where
       go true = acted-last T k i
       go false = acted-none w n T k
 
-  acted-until : (f : ℕ) (T : Table) → Kept w T → In n (ids (T .members)) → Acted w n T (untilDone w f n T)
+  pub acted-until : (f : ℕ) (T : Table) → Kept w T → In n (ids (T .members)) → Acted w n T (untilDone w f n T)
   acted-until zero T k i = acted-none w n T k
   acted-until (suc f) T k i = go (isDone n T) (acted-until f (stabilized w n T))
     where
