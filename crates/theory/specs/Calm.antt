@@ -41,7 +41,7 @@ pub record Calm (T : Table) (n : ℕ) : Type 0 where
   pub met : Met T n (succOf T n)
 
 -- Order: from p, n is not passed on the way to h
-other-side : {p n h : ℕ} → Outside p n h → (n ≡ h → ⊥) → (p ≡ n) ⊎ Inside n p h
+pub other-side : {p n h : ℕ} → Outside p n h → (n ≡ h → ⊥) → (p ≡ n) ⊎ Inside n p h
 other-side {p} {n} {h} o d = go (equal? p n) o
   where
     go : (p ≡ n) ⊎ (p ≡ n → ⊥) → Outside p n h → (p ≡ n) ⊎ Inside n p h

@@ -22,4 +22,6 @@ pub mod Images
 pub mod Turns
 pub mod Bound
 pub mod Calm
+pub mod Rounds
+pub mod Far
 pub mod Demand3
