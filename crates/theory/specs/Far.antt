@@ -7,7 +7,7 @@ use mathlib.Core.List.{List, [], _∷_}
 use Prim.Native.Nat.{ℕ, zero, suc, _≤_, _<_}
 use native.Mathlib.Omega.{arith}
 use lib.ListN.{length, getD}
-use Rattle.model.specs.Lists.{select, count}
+use Rattle.model.specs.Lists.{select, count, withoutLast}
 use Rattle.model.specs.Table.{Member, Table, ids}
 use Rattle.model.specs.Ring.{named, successor, principal, nextUp, nextDown}
 use Rattle.model.specs.Settle.{afterTurn, afterRound, afterRounds}
@@ -161,9 +161,9 @@ module _ (xs : List ℕ) (rise : Rising xs) (pr : ℕ → Bool) where
     abbrev Wrong : ℕ → Table → ℕ → Type 0
     Wrong k T x = (succOf T x ≡ nextUp xs x → ⊥) → Far k (succOf T x)
 
-    record Fars (k : ℕ) (T : Table) : Type 0 where
-      all : AllCalm w r xs pr T
-      far : (x : ℕ) → In x xs → Wrong k T x
+    pub record Fars (k : ℕ) (T : Table) : Type 0 where
+      pub all : AllCalm w r xs pr T
+      pub far : (x : ℕ) → In x xs → Wrong k T x
 
     module _ (k : ℕ) (n : ℕ) (T : Table) (i : In n xs) (v : Fars k T) where
       c : Common w r xs pr T
@@ -241,7 +241,24 @@ module _ (xs : List ℕ) (rise : Rising xs) (pr : ℕ → Bool) where
         go x j (inr d) = far-other k n T i v k x j d (v .far x j)
 
     -- a round more, a member further
-    fars-round : (k : ℕ) (T : Table) → Fars k T → Fars (suc k) (afterRound w T)
+    pub fars-round : (k : ℕ) (T : Table) → Fars k T → Fars (suc k) (afterRound w T)
     fars-round k T v =
         let g = round-gives w xs (Fars k) (λ x U. Wrong (suc k) U x) (fars-turn k) (far-own k) (λ n x U i j d u f. far-other k n U i u (suc k) x j d f) T (v .all .common .is-ids) v in
         record { all = g .0 .all; far = g .1 }
+
+    -- none is wrong where even the member before it would be too far
+    pub none-wrong : (k : ℕ) (T : Table) → Fars k T → (p : ℕ) → In p xs → pr p ≡ true → count (λ x. not (pr x)) xs ≤ k → (x : ℕ) → In x xs → succOf T x ≡ nextUp xs x
+    none-wrong k T v p ip ep h x i = go (equal? (succOf T x) (nextUp xs x))
+      where
+        go : (succOf T x ≡ nextUp xs x) ⊎ (succOf T x ≡ nextUp xs x → ⊥) → succOf T x ≡ nextUp xs x
+        go (inl e) = e
+        go (inr ne) =
+            let b = behind x (succOf T x) i (alive k x T i v x i) (not-self k x T i v x i) ne in
+            absurd (omega (arith, far-few some p ip ep (suc k) (b .before) (b .member) (d-none k x T i v ne b, rw (b .up) (v .far x i ne))))
+
+    -- a turn of a member whose successor is right: it stays, and its list is followed
+    pub right-turn : (n : ℕ) (T : Table) → In n xs → AllCalm w r xs pr T → succOf T n ≡ nextUp xs n → named (afterTurn w n T .members) n .successors ≡ nextUp xs n ∷ withoutLast (named (T .members) (nextUp xs n) .successors)
+    right-turn n T i a e =
+        let v : Fars 0 T = record { all = a; far = λ x j ne. tt } in
+        let t = turn 0 n T i v in
+        t .list ∙ ap (λ (x : ℕ). x ∷ withoutLast (named (T .members) x .successors)) (right-stays 0 n T i v e (t .which))

@@ -24,4 +24,5 @@ pub mod Bound
 pub mod Calm
 pub mod Rounds
 pub mod Far
+pub mod Right
 pub mod Demand3
