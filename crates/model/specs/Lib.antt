@@ -16,4 +16,5 @@ pub mod Settle
 pub mod Refusals
 pub mod Calls
 pub mod Run
+pub mod Service
 pub mod Examples

@@ -12,11 +12,6 @@ use Rattle.model.specs.Steps.{stabilized}
 use Rattle.model.specs.Settle.{isDone, lastStep, finished, afterTurn, roundsRun}
 use Rattle.model.specs.Calls.{roundAnswer, roundWords, settleAnswer}
 
--- a slice with a sound table
-pub record SoundSlice (ws : List ℕ) : Type 0 where
-  pub well-formed : wellFormed ws ≡ true
-  pub is-sound : sound (tableOf ws) ≡ true
-
 -- members - principals + r: the rounds that are enough, by the audit's own numbers
 abbrev pub enough : List ℕ → ℕ
 enough ws = (length (membersIn ws) - principals (membersIn ws)) + tableOf ws .r
@@ -34,7 +29,7 @@ pub record AtRest (ws : List ℕ) : Type 0 where
 
 -- from every sound table so many rounds, and any more, lead to rest
 abbrev pub SettlesAfter : (List ℕ → ℕ) → Type 0
-SettlesAfter bound = (ws : List ℕ) → SoundSlice ws → (k : ℕ) → bound ws ≤ k → AtRest (rounds k ws)
+SettlesAfter bound = (ws : List ℕ) → wellFormed ws ≡ true → sound (tableOf ws) ≡ true → (k : ℕ) → bound ws ≤ k → AtRest (rounds k ws)
 
 -- members - 1; and document 02's number, 2 × s × s + r + 1 for s members
 abbrev pub oneLess : List ℕ → ℕ

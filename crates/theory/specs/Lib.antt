@@ -25,4 +25,6 @@ pub mod Calm
 pub mod Rounds
 pub mod Far
 pub mod Right
+pub mod Settled
+pub mod Served
 pub mod Demand3

@@ -1,0 +1,47 @@
+-- Lists in which document 02's rounds and settles stand among the seven calls, and the table that such a list leads to.
+use Prim.Native.Nat.{ℕ}
+use mathlib.Core.Bool.{Bool, true, _&&_}
+use mathlib.Core.List.{List, [], _∷_}
+use Rattle.model.specs.Answer.{Answer}
+use Rattle.model.specs.Calls.{roundAnswer, roundWords, settleAnswer, settleWords}
+use Rattle.model.specs.Run.{Call, numbersOf, callAnswer, callWords, grantedCall}
+
+-- one of the seven calls, a round, or settle with a limit
+pub data Service : Type 0 where
+  Called : (c : Call) → Service
+  Round : Service
+  Settle : (limit : ℕ) → Service
+
+-- the identifiers and the key that it is given
+abbrev pub identifiersOf : Service → List ℕ
+identifiersOf (Called c) = numbersOf c
+identifiersOf Round = []
+identifiersOf (Settle limit) = []
+
+-- what it answers on a slice
+unfoldable pub serviceAnswer : List ℕ → Service → Answer
+serviceAnswer ws (Called c) = callAnswer ws c
+serviceAnswer ws Round = roundAnswer ws
+serviceAnswer ws (Settle limit) = settleAnswer ws limit
+
+-- the slice after it
+unfoldable pub serviceWords : List ℕ → Service → List ℕ
+serviceWords ws (Called c) = callWords ws c
+serviceWords ws Round = roundWords ws
+serviceWords ws (Settle limit) = settleWords ws limit
+
+-- the slice after a list of them, each on what the last one left
+unfoldable pub served : List Service → List ℕ → List ℕ
+served [] ws = ws
+served (s ∷ ss) ws = served ss (serviceWords ws s)
+
+-- a loss, if accepted, is one that a withdrawal in its place would be granted
+unfoldable pub grantedService : List ℕ → Service → Bool
+grantedService ws (Called c) = grantedCall ws c
+grantedService ws Round = true
+grantedService ws (Settle limit) = true
+
+-- each loss of a list is such a one at its moment
+unfoldable pub grantedAll : List Service → List ℕ → Bool
+grantedAll [] ws = true
+grantedAll (s ∷ ss) ws = grantedService ws s && grantedAll ss (serviceWords ws s)

@@ -1,0 +1,248 @@
+-- The proof of settle's bound: Far's rounds and one more until no successor is wrong, then Right's until no entry is; and what that says of slices.
+use mathlib.Core.Path.{_≡_, refl, sym, ap, subst, _∙_}
+use mathlib.Core.Logic.{_⊎_, inl, inr}
+use mathlib.Core.Bool.{Bool, true, false, not}
+use mathlib.Core.List.{List, [], _∷_, map}
+use Prim.Native.Nat.{ℕ, zero, suc, _+_, _-_, _*_, _≤_, _<_}
+use native.Mathlib.Omega.{arith}
+use lib.Dec.{eqb}
+use lib.ListN.{length, getD, take, set}
+use borrow.Author.Tests.{eqb-true, eqb-false}
+use Rattle.model.specs.Lists.{if_then_else_, count}
+use Rattle.model.specs.Identifier.{space}
+use Rattle.model.specs.Table.{Table, size, tableOf, membersIn, ids, formed, wellFormed}
+use Rattle.model.specs.Ring.{live, named, principal, principals, sound, ideal, verdict, nextUp, nextUps}
+use Rattle.model.specs.Answer.{accepted}
+use Rattle.model.specs.Steps.{withSteps}
+use Rattle.model.specs.New.{newMember, newTable}
+use Rattle.model.specs.Settle.{finished, afterTurn, afterRound, afterRounds, roundsRun, afterSettle}
+use Rattle.model.specs.Refusals.{settleRefusal}
+use Rattle.model.specs.Calls.{written, roundAnswer, roundWords, settleAnswer}
+use Rattle.laws.specs.Lists.{In, found, live-in, length-ids, any-in, count-any, count-length, count-not}
+use Rattle.laws.specs.Words.{written-table, written-same}
+use Rattle.laws.specs.Tables.{formed-facts, wellFormed-facts, sound-facts, facts-sound, formed-lists}
+use Rattle.theory.specs.Bound.{enough, rounds, AtRest, SettlesAfter, oneLess, document02, Ends, UntilDone}
+use Rattle.theory.specs.Keep.{Kept}
+use Rattle.theory.specs.Runs.{Good, written-good}
+use Rattle.theory.specs.New.{new-ideal}
+use Rattle.theory.specs.Turns.{Lasts, round-lasts, rounds-last}
+use Rattle.theory.specs.Calm.{turn-until}
+use Rattle.theory.specs.Rounds.{Common, AllCalm, calm-round}
+use Rattle.theory.specs.Far.{Fars, fars-round, none-wrong}
+use Rattle.theory.specs.Right.{Right, right-round, rest-round, rest-members}
+
+rounds-add : (w a b n : ℕ) (T : Table) → a + b ≡ n → afterRounds w n T ≡ afterRounds w b (afterRounds w a T)
+rounds-add w zero b n T e = let q : n ≡ b = omega arith in ap (λ (k : ℕ). afterRounds w k T) q
+rounds-add w (suc a) b zero T e = absurd (omega arith)
+rounds-add w (suc a) b (suc n) T e = rounds-add w a b n (afterRound w T) (omega arith)
+
+first-one : (l : List ℕ) (x : ℕ) → 1 ≤ length l → getD l 0 0 ≡ x → take 1 l ≡ x ∷ []
+first-one [] x h e = absurd (omega arith)
+first-one (y ∷ l) x h e = ap (λ (z : ℕ). z ∷ []) e
+
+-- the step count is no part of what makes a table ideal
+ideal-counted : (s : ℕ) (T : Table) → ideal T ≡ true → ideal (withSteps s T) ≡ true
+unfolding ideal
+ideal-counted s T h = h
+
+-- One sound table
+
+module _ (w : ℕ) (T : Table) (k : Kept w T) where
+  abbrev xs : List ℕ
+  xs = ids (T .members)
+
+  abbrev pr : ℕ → Bool
+  pr = principal (T .members)
+
+  abbrev r : ℕ
+  r = T .r
+
+  -- members that are no principals
+  abbrev others : ℕ
+  others = count (λ x. not (pr x)) xs
+
+  common : Common w r xs pr T
+  common = record { kept = k; is-r = refl; is-ids = refl; spares = λ q i h. h }
+
+  many : r + 1 ≤ length xs
+  many = omega (arith, k .is-sound .enough, count-length pr xs)
+
+  some : 1 ≤ length xs
+  some = omega (arith, many)
+
+  a-principal : (p : ℕ) × In p xs × (pr p ≡ true)
+  a-principal = any-in pr xs (count-any pr xs (omega (arith, k .is-sound .enough)))
+
+  abbrev Wrongs : ℕ → Table → Type 0
+  Wrongs = Fars xs (k .formed .ids-rising) pr w r some
+
+  abbrev Rights : ℕ → Table → Type 0
+  Rights = Right xs (k .formed .ids-rising) some pr w r
+
+  -- rounds, one after the other
+
+  far-after : (j a b : ℕ) (U : Table) → a + j ≡ b → Wrongs a U → Wrongs b (afterRounds w j U)
+  far-after zero a b U e v = let q : a ≡ b = omega arith in subst (λ (n : ℕ). Wrongs n U) q v
+  far-after (suc j) a b U e v = far-after j (suc a) b (afterRound w U) (omega arith) (fars-round xs (k .formed .ids-rising) pr w r some a U v)
+
+  right-after : (j a b : ℕ) (U : Table) → a + j ≡ b → b ≤ r → Rights a U → Rights b (afterRounds w j U)
+  right-after zero a b U e h v = let q : a ≡ b = omega arith in subst (λ (n : ℕ). Rights n U) q v
+  right-after (suc j) a b U e h v = right-after j (suc a) b (afterRound w U) (omega arith) h (right-round xs (k .formed .ids-rising) some pr w r a U (omega arith) v)
+
+  rest-after : (j : ℕ) (U : Table) → Rights r U → Rights r (afterRounds w j U)
+  rest-after zero U v = v
+  rest-after (suc j) U v = rest-after j (afterRound w U) (rest-round xs (k .formed .ids-rising) some pr w r U v)
+
+  -- after the first round all are calm; after as many more as there are others, no successor is wrong
+  first-right : Rights 1 (afterRounds w (suc others) T)
+  first-right =
+      let v = far-after others 0 others (afterRound w T) (omega arith) (record { all = calm-round w r xs pr T common; far = λ x i ne. tt }) in
+      let p = a-principal in
+      let c = v .all .common in
+      let first = none-wrong xs (k .formed .ids-rising) pr w r some others _ v (p .0) (p .1) (p .2) (omega arith) in
+      record { all = v .all; first = first; lists = λ x i. first-one (named (afterRounds w (suc others) T .members) x .successors) (nextUp xs x) (long c x i) (first x i) }
+    where
+      long : {U : Table} → Common w r xs pr U → (x : ℕ) → In x xs → 1 ≤ length (named (U .members) x .successors)
+      long {U} c x i = let f = found {x = x} (U .members) (rw (c .is-ids) i) in omega (arith, c .kept .formed .each (named (U .members) x) (f .0) .list-length, c .kept .formed .r-low)
+
+  -- after r - 1 more no entry is, nor ever again
+  right-from : (j : ℕ) → others + r ≤ j → Rights r (afterRounds w j T)
+  right-from j h =
+      let low = k .formed .r-low in
+      let a = first-right in
+      let b = right-after (r - 1) 1 r (afterRounds w (suc others) T) (omega arith) (omega arith) a in
+      let c = rest-after (j - (others + r)) _ b in
+      subst (λ (U : Table). Rights r U) (ap (afterRounds w (j - (others + r))) (sym (rounds-add w (suc others) (r - 1) (others + r) T (omega arith))) ∙ sym (rounds-add w (others + r) (j - (others + r)) j T (omega arith))) c
+
+  -- the members are then those of the new table: so the table is ideal, and a round changes the step count only
+
+  right-table : (U : Table) → Rights r U → U ≡ withSteps (U .steps) (newTable r xs)
+  right-table U v = λ i. record { r = v .all .common .is-r i; steps = U .steps; members = rest-members xs (k .formed .ids-rising) some pr w r U v i }
+
+  right-ideal : (U : Table) → Rights r U → ideal U ≡ true
+  right-ideal U v = ap ideal (right-table U v) ∙ ideal-counted (U .steps) (newTable r xs) (new-ideal r xs (record { r-low = k .formed .r-low; r-high = k .formed .r-high; is-rising = k .formed .ids-rising; enough = many; few = omega (arith, length-ids (T .members), k .formed .count-high) }))
+
+  right-verdict : (U : Table) → Rights r U → verdict U ≡ 2
+  unfolding verdict
+  right-verdict U v = rw (facts-sound U (v .all .common .kept .is-sound), right-ideal U v)
+
+  right-counts : (U : Table) → Rights r U → afterRound w U ≡ withSteps (afterRound w U .steps) U
+  right-counts U v =
+      right-table (afterRound w U) (rest-round xs (k .formed .ids-rising) some pr w r U v) ∙ sym (ap (withSteps (afterRound w U .steps)) (right-table U v))
+
+-- the steps of a turn are never ended by the bound
+pub steps-end : (T : Table) → formed space T ≡ true → sound T ≡ true → (n : ℕ) → live (T .members) n ≡ true → UntilDone space n (finished space n T) (afterTurn space n T)
+steps-end T f s n l = turn-until space n T (record { formed = formed-facts space T f; is-sound = sound-facts T s }) (live-in (T .members) n l)
+
+-- Slices
+
+kept-of : (ws : List ℕ) → Good ws → Kept space (tableOf ws)
+kept-of ws s = record { formed = wellFormed-facts ws (s .well-formed) .table; is-sound = sound-facts (tableOf ws) (s .is-sound) }
+
+accepts : (ws : List ℕ) → Good ws → settleRefusal ws ≡ 0
+unfolding settleRefusal
+accepts ws s = rw (s .well-formed, s .is-sound)
+
+-- so many rounds of the table, written over the slice, are a sound table's slice again
+same-size : {w : ℕ} {T U : Table} → Lasts w T U → size U ≡ size T
+same-size {w} {T} {U} a = let q : length (U .members) ≡ length (T .members) = sym (length-ids (U .members)) ∙ ap length (a .same-ids) ∙ length-ids (T .members) in rw (q, a .same-r)
+
+pub rounds-slice : (j : ℕ) (ws : List ℕ) → Good ws → Good (written (afterRounds space j (tableOf ws)) ws) × (tableOf (written (afterRounds space j (tableOf ws)) ws) ≡ afterRounds space j (tableOf ws))
+rounds-slice j ws s =
+    let a = rounds-last space j (tableOf ws) (kept-of ws s) in
+    let g = written-good (afterRounds space j (tableOf ws)) ws (a .kept) (omega (arith, same-size a, wellFormed-facts ws (s .well-formed) .fits)) in
+    (g, written-table (afterRounds space j (tableOf ws)) ws (formed-lists space (afterRounds space j (tableOf ws)) (a .kept .formed)))
+
+module _ (ws : List ℕ) (s : Good ws) where
+  round-is : roundWords ws ≡ written (afterRound space (tableOf ws)) ws
+  unfolding roundWords
+  round-is = rw (accepts ws s)
+
+  pub round-slice : Good (roundWords ws)
+  round-slice = rw round-is (rounds-slice 1 ws s .0)
+
+  round-table : tableOf (roundWords ws) ≡ afterRound space (tableOf ws)
+  round-table = ap tableOf round-is ∙ rounds-slice 1 ws s .1
+
+-- the slice after k rounds has the table after k rounds
+after-rounds : (j : ℕ) (ws : List ℕ) → Good ws → Good (rounds j ws) × (tableOf (rounds j ws) ≡ afterRounds space j (tableOf ws))
+after-rounds zero ws s = (s, refl)
+after-rounds (suc j) ws s = let g = after-rounds j (roundWords ws) (round-slice ws s) in (g .0, g .1 ∙ ap (afterRounds space j) (round-table ws s))
+
+-- what members - principals + r is in terms of those that are no principals
+enough-is : (ws : List ℕ) → enough ws ≡ count (λ x. not (principal (membersIn ws) x)) (ids (membersIn ws)) + tableOf ws .r
+enough-is ws = omega (arith, count-not (principal (membersIn ws)) (ids (membersIn ws)), length-ids (membersIn ws))
+
+-- a slice with that table is at rest
+rest-of : (ws : List ℕ) → Good ws → verdict (tableOf ws) ≡ 2 → verdict (afterRound space (tableOf ws)) ≡ 2 → afterRound space (tableOf ws) ≡ withSteps (afterRound space (tableOf ws) .steps) (tableOf ws) → AtRest ws
+unfolding roundAnswer
+rest-of ws s v n c = record { verdict-2 = v; replies-2 = rw (accepts ws s, n); counts-only = words ∙ ap (set ws 2) (sym third) }
+  where
+    steps : ℕ
+    steps = afterRound space (tableOf ws) .steps
+
+    over : written (tableOf ws) ws ≡ ws
+    over = let f = wellFormed-facts ws (s .well-formed) in written-same ws (f .header) (f .fits)
+
+    counted : roundWords ws ≡ set (written (tableOf ws) ws) 2 steps
+    counted = round-is ws s ∙ ap (λ (U : Table). written U ws) c
+
+    words : roundWords ws ≡ set ws 2 steps
+    words = counted ∙ ap (λ (us : List ℕ). set us 2 steps) over
+
+    third : getD (roundWords ws) 2 0 ≡ steps
+    third = ap (λ (us : List ℕ). getD us 2 0) counted
+
+-- The theorems
+
+-- members - principals + r rounds are enough
+pub settles-after-enough : SettlesAfter enough
+settles-after-enough ws wf so j h =
+    let s : Good ws = record { well-formed = wf; is-sound = so } in
+    let k = kept-of ws s in
+    let T = tableOf ws in
+    let a = after-rounds j ws s in
+    let e = a .1 in
+    let far : count (λ x. not (principal (membersIn ws) x)) (ids (membersIn ws)) + T .r ≤ j = omega (arith, enough-is ws) in
+    let v = right-from space T k j far in
+    let U = afterRounds space j T in
+    let n = rest-round (ids (membersIn ws)) (k .formed .ids-rising) (some space T k) (principal (membersIn ws)) space (T .r) U v in
+    rest-of (rounds j ws) (a .0) (ap verdict e ∙ right-verdict space T k U v) (ap (λ (X : Table). verdict (afterRound space X)) e ∙ right-verdict space T k (afterRound space U) n)
+    (subst (λ (X : Table). afterRound space X ≡ withSteps (afterRound space X .steps) X) (sym e) (right-counts space T k U v))
+
+-- and at most members - 1
+pub enough-at-most : (ws : List ℕ) → sound (tableOf ws) ≡ true → enough ws ≤ oneLess ws
+enough-at-most ws so = omega (arith, sound-facts (tableOf ws) so .enough, count-length (principal (membersIn ws)) (ids (membersIn ws)), length-ids (membersIn ws))
+
+pub settles-after-one-less : SettlesAfter oneLess
+settles-after-one-less ws wf so j h = settles-after-enough ws wf so j (omega (arith, enough-at-most ws so))
+
+-- document 02's sentence
+square : (s : ℕ) → s ≤ 2 * s * s
+square zero = omega arith
+square (suc s) = let q : 2 * suc s * suc s ≡ 2 * suc s * s + 2 * suc s = omega arith in omega arith
+
+pub settles-as-document-02 : SettlesAfter document02
+settles-as-document-02 ws wf so j h = settles-after-one-less ws wf so j (omega (arith, square (length (membersIn ws))))
+
+-- settle stops where the verdict is 2
+runs-to : (limit e : ℕ) (T : Table) → ((j : ℕ) → e ≤ j → verdict (afterRounds space j T) ≡ 2) → e ≤ limit → (roundsRun space limit T ≤ e) × (verdict (afterSettle space limit T) ≡ 2)
+runs-to zero e T f h = (omega arith, f 0 h)
+runs-to (suc limit) e T f h = go (eqb (verdict T) 2) refl e f h (λ e f h. runs-to limit e (afterRound space T) f h)
+  where
+    go : (b : Bool) → eqb (verdict T) 2 ≡ b → (e : ℕ) → ((j : ℕ) → e ≤ j → verdict (afterRounds space j T) ≡ 2) → e ≤ suc limit →
+        ((e : ℕ) → ((j : ℕ) → e ≤ j → verdict (afterRounds space j (afterRound space T)) ≡ 2) → e ≤ limit → (roundsRun space limit (afterRound space T) ≤ e) × (verdict (afterSettle space limit (afterRound space T)) ≡ 2)) →
+        ((if b then 0 else suc (roundsRun space limit (afterRound space T))) ≤ e) × (verdict (afterRounds space (if b then 0 else suc (roundsRun space limit (afterRound space T))) T) ≡ 2)
+    go true q e f h ih = (omega arith, eqb-true _ 2 q)
+    go false q zero f h ih = absurd (eqb-false _ 2 q (f 0 (omega arith)))
+    go false q (suc e) f h ih = let g = ih e (λ j l. f (suc j) (omega arith)) (omega arith) in (omega (arith, g .0), g .1)
+
+pub settle-ends : (ws : List ℕ) → wellFormed ws ≡ true → sound (tableOf ws) ≡ true → (limit : ℕ) → enough ws ≤ limit → Ends ws limit
+unfolding settleAnswer
+settle-ends ws wf so limit h =
+    let s : Good ws = record { well-formed = wf; is-sound = so } in
+    let g = runs-to limit (enough ws) (tableOf ws) (λ j l. ap verdict (sym (after-rounds j ws s .1)) ∙ settles-after-enough ws wf so j l .verdict-2) h in
+    record { rounds-run = roundsRun space limit (tableOf ws); few = g .0; reports = rw (accepts ws s, g .1) }
+
+pub settle-ends-one-less : (ws : List ℕ) → wellFormed ws ≡ true → sound (tableOf ws) ≡ true → (limit : ℕ) → oneLess ws ≤ limit → Ends ws limit
+settle-ends-one-less ws wf so limit h = settle-ends ws wf so limit (omega (arith, enough-at-most ws so))
