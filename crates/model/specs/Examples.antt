@@ -1,16 +1,17 @@
--- Document 01, "Table of settled examples": one statement over a list of cases, computed. Then document 02's Req 01 to Req 04.
+-- Document 01, "Table of settled examples": one statement over a list of cases, computed. Then document 02's Req 01 to Req 05.
 use Prim.Native.Nat.{ℕ}
 use mathlib.Core.Path.{_≡_, refl}
 use mathlib.Core.List.{List, [], _∷_, _++_, map}
 use lib.ListN.{length, replicate, take}
 use Rattle.model.specs.Lists.{bit}
-use Rattle.model.specs.Identifier.{between, after}
+use Rattle.model.specs.Identifier.{space, between, after}
 use Rattle.model.specs.Table.{Member, Table, size, tableOf, membersIn, wordsOf, wellFormed, formed, formedMember}
 use Rattle.model.specs.Ring.{named, sound, candidateInside, ideal, idealMember, verdict}
-use Rattle.model.specs.Steps.{stabilize, stabilizeReply, nextStep}
+use Rattle.model.specs.Steps.{stabilizeFromSuccessor, stabilizeFromPredecessor, stabilize, stabilizeReply, nextStep, renews}
 use Rattle.model.specs.New.{newTable}
 use Rattle.model.specs.Held.{runsOf}
-use Rattle.model.specs.Refusals.{full, newRefusal, noNewTable, joinRefusal, memberRefusal, leaveRefusal, cutsOff, tooFewPrincipals, heldRefusal}
+use Rattle.model.specs.Settle.{delivered, lastStep, finished, afterTurn, afterRound, afterRounds, roundsRun, roundReply, settleReply}
+use Rattle.model.specs.Refusals.{full, newRefusal, noNewTable, joinRefusal, memberRefusal, leaveRefusal, cutsOff, tooFewPrincipals, heldRefusal, settleRefusal}
 use Rattle.model.specs.Calls.{joinAnswer, joinWords, stabilizeAnswer, stabilizeWords, failWords, newAnswer, newWords, leaveAnswer, leaveWords, heldAnswer, principalAnswer}
 
 -- a case: what the definitions compute, and what document 01 says
@@ -156,3 +157,31 @@ withdrawalCases =
 pub withdrawals : map (λ c. c .computed) withdrawalCases ≡ map (λ c. c .expected) withdrawalCases
 unfolding leaveAnswer leaveWords leaveRefusal cutsOff tooFewPrincipals between newWords newRefusal noNewTable wellFormed formed formedMember
 withdrawals = refl
+
+-- the ring of 10, 20, 30 and 40 after 25 joined by 20, which has the list of 20 and skips nobody; all but 25 are principals
+abbrev pub joined25 : Table
+joined25 = listsOfTwo (settledMember 10 40 (20 ∷ 30 ∷ []) ∷ settledMember 20 10 (30 ∷ 40 ∷ []) ∷ settledMember 25 20 (30 ∷ 40 ∷ []) ∷ settledMember 30 20 (40 ∷ 10 ∷ []) ∷ settledMember 40 30 (10 ∷ 20 ∷ []) ∷ [])
+
+-- 10 has the candidate 30 pending, whose predecessor 20 is no member; lists of one
+abbrev pub waiting30 : Table
+waiting30 = record { r = 1; steps = 0; members = record { id = 10; predecessor = 50; pending = 1; candidate = 30; successors = 50 ∷ [] } ∷ settledMember 30 20 (50 ∷ []) ∷ settledMember 50 30 (10 ∷ []) ∷ [] }
+
+-- 10 has the candidate 15 pending and the first entry 20, both no members
+abbrev pub waiting15 : Table
+waiting15 = listsOfTwo (record { id = 10; predecessor = 50; pending = 1; candidate = 15; successors = 20 ∷ 30 ∷ [] } ∷ settledMember 30 10 (40 ∷ 50 ∷ []) ∷ settledMember 40 30 (50 ∷ 10 ∷ []) ∷ settledMember 50 40 (10 ∷ 30 ∷ []) ∷ [])
+
+-- rounds run and verdict: 5 - 4 + 2 = 3 rounds after a join, the limit reached, limit 0, none for an ideal table; the verdict after one round. Step counts and verdicts:
+-- 16 steps in the three rounds, 25 being looked at in the second; the pending step of 10 finished first, and its notice delivered, 2 and 1 and 1; the pending step whose notice
+-- is lost, then again, then done, 3 and 1 and 1 and 1. 14 for two members, 1 for no table, and neither for a sound table that is not ideal
+abbrev pub settleCases : List Case
+settleCases =
+    (roundsRun space 9 joined25 ∷ verdict (afterRounds space 3 joined25) ∷ afterRounds space 3 joined25 .steps ∷ [] gives 3 ∷ 2 ∷ 16 ∷ []) ∷
+    (settleReply space 1 joined25 gives 1 ∷ 1 ∷ []) ∷
+    (settleReply space 0 joined25 ++ settleReply space 9 (ring4 10 40) ++ roundReply space joined25 gives 0 ∷ 1 ∷ 0 ∷ 2 ∷ 1 ∷ []) ∷
+    (afterRound space waiting30 .steps ∷ roundReply space waiting30 gives 4 ∷ 2 ∷ []) ∷
+    (afterRound space waiting15 .steps ∷ roundReply space waiting15 gives 6 ∷ 2 ∷ []) ∷
+    (settleRefusal (wordsOf (ring2 20)) ∷ settleRefusal blank ∷ settleRefusal (wordsOf joined25) ∷ [] gives 14 ∷ 1 ∷ 0 ∷ []) ∷ []
+
+pub settles : map (λ c. c .computed) settleCases ≡ map (λ c. c .expected) settleCases
+unfolding settleRefusal verdict sound ideal idealMember candidateInside between after stabilize stabilizeFromSuccessor stabilizeFromPredecessor stabilizeReply nextStep renews delivered lastStep finished afterTurn afterRound wellFormed formed formedMember
+settles = refl

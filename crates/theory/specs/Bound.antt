@@ -4,12 +4,11 @@ use mathlib.Core.Path.{_≡_}
 use mathlib.Core.Bool.{true, false}
 use mathlib.Core.List.{List, [], _∷_}
 use lib.ListN.{length, getD, set}
-use Rattle.model.specs.Identifier.{space}
 use Rattle.model.specs.Table.{Table, tableOf, membersIn, wellFormed}
-use Rattle.model.specs.Ring.{live, named, isPending, principals, sound, verdict}
+use Rattle.model.specs.Ring.{principals, sound, verdict}
 use Rattle.model.specs.Answer.{accepted}
 use Rattle.model.specs.Steps.{stabilized}
-use Rattle.model.specs.Settle.{isDone, lastStep, finished, afterTurn, roundsRun}
+use Rattle.model.specs.Settle.{isDone, lastStep}
 use Rattle.model.specs.Calls.{roundAnswer, roundWords, settleAnswer}
 
 -- members - principals + r: the rounds that are enough, by the audit's own numbers

@@ -3,16 +3,16 @@
 use mathlib.Core.Path.{_≡_, refl, sym, ap, subst, _∙_}
 use mathlib.Core.Logic.{_⊎_, inl, inr}
 use mathlib.Core.Bool.{Bool, true, false, not, _||_, true≢false}
-use mathlib.Core.List.{List, [], _∷_}
-use Prim.Native.Nat.{ℕ, zero, suc, _≤_, _<_}
+use mathlib.Core.List.{List}
+use Prim.Native.Nat.{ℕ, zero, suc, _≤_}
 use native.Mathlib.Omega.{arith}
 use lib.Dec.{eqb}
-use lib.ListN.{length, getD}
-use Rattle.model.specs.Lists.{if_then_else_, contains}
+use lib.ListN.{getD}
+use Rattle.model.specs.Lists.{if_then_else_}
 use Rattle.model.specs.Identifier.{between}
 use Rattle.model.specs.Table.{Member, Table, ids}
-use Rattle.model.specs.Ring.{live, named, successor, isPending, hasLive}
-use Rattle.model.specs.Steps.{withPredecessor, adopt, awaitCandidate, clearPending, dropHead, offered, isBetter, stabilizeFromPredecessor, stabilize, stabilized, renews, rectifyIn, rectified}
+use Rattle.model.specs.Ring.{live, named, successor, isPending}
+use Rattle.model.specs.Steps.{withPredecessor, adopt, awaitCandidate, clearPending, dropHead, offered, isBetter, stabilizeFromPredecessor, stabilized, renews, rectified}
 use Rattle.model.specs.Settle.{delivered, nextReply, isDone, lastStep, finished, untilDone, afterTurn}
 use Rattle.laws.specs.Order.{equal?, Inside, Outside, below, beyond, rest, mid, high, low, inside?, inside-outside, false-outside, inner-from}
 use Rattle.laws.specs.Lists.{In, found, live-in, in-live}
@@ -21,7 +21,7 @@ use Rattle.theory.specs.Bound.{UntilDone, last, more}
 use Rattle.theory.specs.Static.{lists-in-order}
 use Rattle.theory.specs.Keep.{Kept}
 use Rattle.theory.specs.Again.{LiveAt, live-at, in-front}
-use Rattle.theory.specs.Turns.{Predecessor, stays, dead, nearer, SameList, Acted, acted-step, acted-delivered, acted-finished, acted-turn, small, acted-notice, stepped-named, noticed-named, noticed-list, delivered-list, stays-in}
+use Rattle.theory.specs.Turns.{Predecessor, stays, dead, nearer, SameList, Acted, acted-step, acted-finished, small, acted-notice, stepped-named, noticed-named, noticed-list, delivered-list, stays-in}
 
 -- a member's successor and its predecessor, by name
 abbrev pub succOf : Table → ℕ → ℕ
@@ -151,19 +151,17 @@ module _ (w n : ℕ) where
       go true e ih = last e
       go false e ih = more e (on e ih (case-of n T))
 
-  -- the fuel never ends it, on a sound table with n
-  pub until-done : (T : Table) → Kept w T → In n (ids (T .members)) → UntilDone w n T (untilDone w (suc (T .r)) n T)
-  until-done T k i =
-      let f = found (T .members) i in
-      let a = live-at (ids (T .members)) (named (T .members) n .successors) (k .is-sound .live-entry (named (T .members) n) (f .0)) in
-      until (a .0) (suc (T .r)) T k i (a .1) (omega (arith, a .1 .inside, k .formed .each (named (T .members) n) (f .0) .list-length))
+  -- on a sound table with n a bound of r + 1 steps or more is never what ends them
+  until-done : (f : ℕ) (T : Table) → Kept w T → In n (ids (T .members)) → suc (T .r) ≤ f → UntilDone w n T (untilDone w f n T)
+  until-done f T k i h =
+      let m = found (T .members) i in
+      let a = live-at (ids (T .members)) (named (T .members) n .successors) (k .is-sound .live-entry (named (T .members) n) (m .0)) in
+      until (a .0) f T k i (a .1) (omega (arith, a .1 .inside, k .formed .each (named (T .members) n) (m .0) .list-length))
 
   -- nor in a turn
   pub turn-until : (T : Table) → Kept w T → In n (ids (T .members)) → UntilDone w n (finished w n T) (afterTurn w n T)
   unfolding afterTurn
-  turn-until T k i =
-      let a = acted-finished w n T k i in
-      subst (λ (r : ℕ). UntilDone w n (finished w n T) (untilDone w (suc r) n (finished w n T))) (a .lasts .same-r) (until-done (finished w n T) (a .lasts .kept) (stays-in w n a i))
+  turn-until T k i = let a = acted-finished w n T k i in until-done (suc (T .r)) (finished w n T) (a .lasts .kept) (stays-in w n a i) (omega (arith, a .lasts .same-r))
 
   -- What a turn leaves of n
 

@@ -1,25 +1,24 @@
 -- How far the principals are from a wrong successor: one member further with every round. So after as many rounds as there are members that are no principals, and
 -- one more, no successor is wrong.
-use mathlib.Core.Path.{_≡_, refl, sym, ap, subst, _∙_}
+use mathlib.Core.Path.{_≡_, refl, sym, ap, _∙_}
 use mathlib.Core.Logic.{_⊎_, inl, inr}
 use mathlib.Core.Bool.{Bool, true, false, not, true≢false}
 use mathlib.Core.List.{List, [], _∷_}
-use Prim.Native.Nat.{ℕ, zero, suc, _≤_, _<_}
+use Prim.Native.Nat.{ℕ, zero, suc, _≤_}
 use native.Mathlib.Omega.{arith}
 use lib.ListN.{length, getD}
 use Rattle.model.specs.Lists.{select, count, withoutLast}
-use Rattle.model.specs.Table.{Member, Table, ids}
-use Rattle.model.specs.Ring.{named, successor, principal, nextUp, nextDown}
-use Rattle.model.specs.Settle.{afterTurn, afterRound, afterRounds}
+use Rattle.model.specs.Table.{Table, ids}
+use Rattle.model.specs.Ring.{named, nextUp, nextDown}
+use Rattle.model.specs.Settle.{afterTurn, afterRound}
 use Rattle.laws.specs.Order.{equal?, Inside, Outside, below, beyond, rest, mid, high, low, inside-outside, inside-ends, Before, before-trans, before-irrefl, onward}
 use Rattle.laws.specs.Lists.{In, found, here, there, in-cons, in-nil, NoDup, pigeonhole, in-select, select-count, Rising}
 use Rattle.theory.specs.Entries.{Clear, principal-clear, of-named}
 use Rattle.theory.specs.Static.{next-up}
 use Rattle.theory.specs.New.{up-spares, down-spares, up-in, down-in}
-use Rattle.theory.specs.Keep.{Kept}
 use Rattle.theory.specs.Turns.{acted-turn}
-use Rattle.theory.specs.Calm.{succOf, predOf, Met, by-own, by-nearer, Calm, other-side, not-own}
-use Rattle.theory.specs.Rounds.{Turned, turned, round-gives, Common, among, AllCalm, all-calm-turn, calm-round}
+use Rattle.theory.specs.Calm.{succOf, predOf, Met, by-own, by-nearer, other-side, not-own}
+use Rattle.theory.specs.Rounds.{Turned, turned, round-gives, Common, among, AllCalm, all-calm-turn}
 
 -- Order: the way up from y to v, with u not passed
 short-step : {n y u v : ℕ} → Inside n y u → Outside y u v → (v ≡ u) ⊎ Inside n v u

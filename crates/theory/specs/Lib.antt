@@ -27,4 +27,5 @@ pub mod Far
 pub mod Right
 pub mod Settled
 pub mod Served
+pub mod Tight
 pub mod Demand3

@@ -2,9 +2,9 @@
 -- of the new table.
 use mathlib.Core.Path.{_≡_, refl, sym, ap, subst, _∙_}
 use mathlib.Core.Logic.{_⊎_, inl, inr}
-use mathlib.Core.Bool.{Bool, true, false}
+use mathlib.Core.Bool.{Bool, false}
 use mathlib.Core.List.{List, [], _∷_, map}
-use Prim.Native.Nat.{ℕ, zero, suc, _+_, _-_, _≤_, _<_}
+use Prim.Native.Nat.{ℕ, zero, suc, _-_, _≤_}
 use native.Mathlib.Omega.{arith}
 use lib.ListN.{length, getD, take}
 use lib.Seq.{take-all, take-take}
@@ -13,7 +13,7 @@ use Rattle.model.specs.Lists.{withoutLast}
 use Rattle.model.specs.Table.{Member, Table, ids}
 use Rattle.model.specs.Ring.{named, isPending, nextUp, nextDown, nextUps}
 use Rattle.model.specs.New.{newMember}
-use Rattle.model.specs.Settle.{afterTurn, afterRound, afterRounds}
+use Rattle.model.specs.Settle.{afterTurn, afterRound}
 use Rattle.laws.specs.Order.{equal?, inside-outside}
 use Rattle.laws.specs.Lists.{In, here, there, found, in-ids, named-in, Rising, rising-nodup}
 use Rattle.theory.specs.Static.{next-up}

@@ -4,20 +4,19 @@ use mathlib.Core.Path.{_≡_, refl, sym, ap, subst, _∙_}
 use mathlib.Core.Logic.{_⊎_, inl, inr}
 use mathlib.Core.Bool.{Bool, true, false, true≢false}
 use mathlib.Core.List.{List, [], _∷_}
-use Prim.Native.Nat.{ℕ, zero, suc}
-use lib.ListN.{getD}
+use Prim.Native.Nat.{ℕ}
 use Rattle.model.specs.Lists.{withoutLast}
 use Rattle.model.specs.Identifier.{between}
 use Rattle.model.specs.Table.{Member, Table, ids}
-use Rattle.model.specs.Ring.{live, named, successor, isPending, principal}
-use Rattle.model.specs.Steps.{adopt, clearPending, isBetter, stabilizeFromPredecessor, stabilized}
+use Rattle.model.specs.Ring.{live, named, isPending, principal}
+use Rattle.model.specs.Steps.{adopt, isBetter, stabilizeFromPredecessor, stabilized}
 use Rattle.model.specs.Settle.{isDone, lastStep, finished, afterTurn, afterTurns, afterRound}
 use Rattle.laws.specs.Order.{equal?, Inside, Outside, inside?, inside-true, outside-false, inside-ends}
-use Rattle.laws.specs.Lists.{In, here, there, in-cons, in-nil, found, live-in, in-live}
+use Rattle.laws.specs.Lists.{In, here, there, in-cons, in-nil, found, in-live}
 use Rattle.laws.specs.Stabilize.{step-pending}
 use Rattle.theory.specs.Keep.{Kept}
 use Rattle.theory.specs.Bound.{UntilDone, last, more}
-use Rattle.theory.specs.Turns.{Lasts, Acted, acted-step, acted-turn, stepped-named, delivered-list, stays-in}
+use Rattle.theory.specs.Turns.{acted-step, acted-turn, stepped-named, delivered-list, stays-in}
 use Rattle.theory.specs.Calm.{succOf, predOf, Met, by-own, by-nearer, Calm, pending-done, looks-on, settles-done, left-looks, left-settles, turn-until, calm-turn, calm-stays}
 
 -- Turns on a calm table
@@ -116,7 +115,6 @@ module _ (w : ℕ) (xs : List ℕ) (Inv : Table → Type 0) (P : ℕ → Table �
     (keeps : (n : ℕ) (T : Table) → In n xs → Inv T → Inv (afterTurn w n T))
     (own : (n : ℕ) (T : Table) → In n xs → Inv T → P n (afterTurn w n T))
     (others : (n x : ℕ) (T : Table) → In n xs → In x xs → (x ≡ n → ⊥) → Inv T → P x T → P x (afterTurn w n T)) where
-
   turns-give : (ns : List ℕ) (T : Table) → ((n : ℕ) → In n ns → In n xs) → Inv T → Inv (afterTurns w ns T) × ((x : ℕ) → In x xs → In x ns ⊎ P x T → P x (afterTurns w ns T))
   turns-give [] T sub v = (v, λ x i h. left x h)
     where

@@ -1,9 +1,8 @@
 -- The proof of settle's bound: Far's rounds and one more until no successor is wrong, then Right's until no entry is; and what that says of slices.
 use mathlib.Core.Path.{_≡_, refl, sym, ap, subst, _∙_}
-use mathlib.Core.Logic.{_⊎_, inl, inr}
 use mathlib.Core.Bool.{Bool, true, false, not}
-use mathlib.Core.List.{List, [], _∷_, map}
-use Prim.Native.Nat.{ℕ, zero, suc, _+_, _-_, _*_, _≤_, _<_}
+use mathlib.Core.List.{List, [], _∷_}
+use Prim.Native.Nat.{ℕ, zero, suc, _+_, _-_, _*_, _≤_}
 use native.Mathlib.Omega.{arith}
 use lib.Dec.{eqb}
 use lib.ListN.{length, getD, take, set}
@@ -11,10 +10,9 @@ use borrow.Author.Tests.{eqb-true, eqb-false}
 use Rattle.model.specs.Lists.{if_then_else_, count}
 use Rattle.model.specs.Identifier.{space}
 use Rattle.model.specs.Table.{Table, size, tableOf, membersIn, ids, formed, wellFormed}
-use Rattle.model.specs.Ring.{live, named, principal, principals, sound, ideal, verdict, nextUp, nextUps}
-use Rattle.model.specs.Answer.{accepted}
+use Rattle.model.specs.Ring.{live, named, principal, sound, ideal, verdict, nextUp}
 use Rattle.model.specs.Steps.{withSteps}
-use Rattle.model.specs.New.{newMember, newTable}
+use Rattle.model.specs.New.{newTable}
 use Rattle.model.specs.Settle.{finished, afterTurn, afterRound, afterRounds, roundsRun, afterSettle}
 use Rattle.model.specs.Refusals.{settleRefusal}
 use Rattle.model.specs.Calls.{written, roundAnswer, roundWords, settleAnswer}
@@ -25,9 +23,9 @@ use Rattle.theory.specs.Bound.{enough, rounds, AtRest, SettlesAfter, one
 use Rattle.theory.specs.Keep.{Kept}
 use Rattle.theory.specs.Runs.{Good, written-good}
 use Rattle.theory.specs.New.{new-ideal}
-use Rattle.theory.specs.Turns.{Lasts, round-lasts, rounds-last}
+use Rattle.theory.specs.Turns.{Lasts, rounds-last}
 use Rattle.theory.specs.Calm.{turn-until}
-use Rattle.theory.specs.Rounds.{Common, AllCalm, calm-round}
+use Rattle.theory.specs.Rounds.{Common, calm-round}
 use Rattle.theory.specs.Far.{Fars, fars-round, none-wrong}
 use Rattle.theory.specs.Right.{Right, right-round, rest-round, rest-members}
 
@@ -165,7 +163,7 @@ module _ (ws : List ℕ) (s : Good ws) where
   round-table = ap tableOf round-is ∙ rounds-slice 1 ws s .1
 
 -- the slice after k rounds has the table after k rounds
-after-rounds : (j : ℕ) (ws : List ℕ) → Good ws → Good (rounds j ws) × (tableOf (rounds j ws) ≡ afterRounds space j (tableOf ws))
+pub after-rounds : (j : ℕ) (ws : List ℕ) → Good ws → Good (rounds j ws) × (tableOf (rounds j ws) ≡ afterRounds space j (tableOf ws))
 after-rounds zero ws s = (s, refl)
 after-rounds (suc j) ws s = let g = after-rounds j (roundWords ws) (round-slice ws s) in (g .0, g .1 ∙ ap (afterRounds space j) (round-table ws s))
 

@@ -1,24 +1,21 @@
 -- What the steps and notices of one member n may change of a table, and so a turn of n, and turns of several members: sound stays sound, the
 -- principals stay principals, no other member's list or pending moves, and a live predecessor gives way only to a member between.
-use mathlib.Core.Path.{_≡_, refl, sym, ap, subst, _∙_}
+use mathlib.Core.Path.{_≡_, refl, sym, subst, _∙_}
 use mathlib.Core.Logic.{_⊎_, inl, inr}
 use mathlib.Core.Bool.{Bool, true, false, not, _||_}
 use mathlib.Core.List.{List, [], _∷_}
 use Prim.Native.Nat.{ℕ, zero, suc, _<_}
 use native.Mathlib.Omega.{arith}
-use lib.Dec.{eqb}
-use lib.ListN.{getD}
-use borrow.Author.Tests.{eqb-true, eqb-false, not-true}
 use Rattle.model.specs.Lists.{if_then_else_, contains}
 use Rattle.model.specs.Identifier.{between}
 use Rattle.model.specs.Table.{Member, Table, ids}
 use Rattle.model.specs.Ring.{live, named, successor, isPending, principal}
 use Rattle.model.specs.Steps.{withPredecessor, adopt, awaitCandidate, clearPending, dropHead, offered, isBetter, stabilizeFromSuccessor, stabilizeFromPredecessor, stabilize, replaced, stabilized, renews, rectifyIn, rectified}
-use Rattle.model.specs.Settle.{delivered, nextReply, isDone, lastStep, finished, untilDone, afterTurn, afterTurns, afterRound, afterRounds}
+use Rattle.model.specs.Settle.{delivered, isDone, lastStep, finished, untilDone, afterTurn, afterTurns, afterRound, afterRounds}
 use Rattle.laws.specs.Order.{equal?, Inside, true-inside}
-use Rattle.laws.specs.Lists.{In, here, there, or-true, found, live-in, in-live}
+use Rattle.laws.specs.Lists.{In, here, there, found, live-in, in-live}
 use Rattle.laws.specs.Stabilize.{same-id}
-use Rattle.theory.specs.Keep.{Kept, Fresh, changed-principal, replaced-ids, replaced-named, replaced-others, replaced-changed}
+use Rattle.theory.specs.Keep.{Kept, changed-principal, replaced-ids, replaced-named, replaced-others, replaced-changed}
 use Rattle.theory.specs.Steps.{stabilize-fresh, stabilized-kept, rectify-fresh, rectified-kept}
 
 -- the predecessor p of x stays, or becomes n, which is between p and x, or p is no member
