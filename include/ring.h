@@ -28,9 +28,11 @@
      11  new: r not 1 to 8, identifiers not strictly rising, fewer than r + 1, more than 256
      12  held: the keys are not strictly rising
      13  the first entry of p is no member
+     14  round and settle: the table is not sound
 
-   One ring. The promise is about seven calls: ring_join, ring_leave, ring_fail, ring_stabilize, ring_rectify, ring_lookup and ring_audit.
-   From a sound table (ring_audit's verdict 1 or 2) every list of them, refused ones included, leads to a sound table, and on a sound table
+   One ring. The promise is about seven calls: ring_join, ring_leave, ring_fail, ring_stabilize, ring_rectify, ring_lookup and ring_audit;
+   and ring_round and ring_settle may stand among them, for they are made of stabilize and rectify steps. From a sound table (ring_audit's
+   verdict 1 or 2) every list of them, refused ones included, leads to a sound table, and on a sound table
    the first live entries form exactly one ring; as long as each accepted ring_fail is one that ring_leave would have granted in its place,
    and nobody else writes the table. A loss that was not such a one is seen by an audit right after it: the verdict is 0. ring_new
    starts with verdict 2. ring_image_read promises nothing of the ring: the image of a table with two rings is an image, and is read.
@@ -117,6 +119,17 @@ struct ring_answer ring_stabilize(uint32_t *table, size_t words, uint32_t n);
 
 /* n takes a notice from q. values: {1} if q was written as n's predecessor, {0} if not. 1, 3. */
 struct ring_answer ring_rectify(uint32_t *table, size_t words, uint32_t n, uint32_t q);
+
+/* One round: each member, by rising identifier, finishes a pending step, if it has one, and delivers its notice; then it takes stabilize steps
+   until "done", and delivers that notice. A notice is taken as by ring_rectify; one to a non-member is lost. Each stabilize step adds 1 to the
+   step count. values: the verdict after the round, 1 or 2. 1, 14. */
+struct ring_answer ring_round(uint32_t *table, size_t words);
+
+/* Settle: rounds until the verdict is 2, or until so many have run as limit says; any limit, 0 runs none. The verdict is looked at before each
+   round, so an ideal table gets none. values: rounds run, verdict. 1, 14.
+   Enough are members - principals + r rounds, by ring_audit's numbers before the call: so many, or any more, make every sound table ideal, and
+   that is at most members - 1. So a limit of 255 is never reached with verdict 1. A round after that many changes the step count only. */
+struct ring_answer ring_settle(uint32_t *table, size_t words, uint32_t limit);
 
 /* Loss of n: its record goes, those above move down, the r + 4 words freed become 0. values: member count afterwards. 1, 3. */
 struct ring_answer ring_fail(uint32_t *table, size_t words, uint32_t n);

@@ -9,12 +9,12 @@
 #include <string.h>
 #include <ucontext.h>
 
-enum { STACK = 1 << 16, PAINT = 0xa5, CALLS = 16, HELD = 14, PRINCIPAL = 15, KEYS = 100000 };
+enum { STACK = 1 << 16, PAINT = 0xa5, CALLS = 18, HELD = 14, PRINCIPAL = 15, ROUND = 16, SETTLE = 17, KEYS = 100000 };
 
 static const char *const names[CALLS] = {"ring_new",        "ring_join",        "ring_stabilize",  "ring_rectify",    "ring_fail",
                                          "ring_leave",      "ring_lookup",      "ring_audit",      "ring_findings",   "ring_alike",
                                          "ring_take_over",  "ring_image_write", "ring_image_read", "ring_image_field", "ring_held",
-                                         "ring_principal"};
+                                         "ring_principal",  "ring_round",       "ring_settle"};
 
 /* The numbers that each call can answer, a bit each. */
 #define BIT(n) (1u << (n))
@@ -35,6 +35,8 @@ static const uint32_t numbers[CALLS] = {
     BIT(0) | BIT(9),
     BIT(0) | BIT(1) | BIT(3) | BIT(12), /* held */
     BIT(0) | BIT(1) | BIT(3),
+    BIT(0) | BIT(1) | BIT(14), /* round */
+    BIT(0) | BIT(1) | BIT(14),
 };
 
 static unsigned char painted[STACK];
@@ -43,6 +45,8 @@ static size_t deepest[CALLS];
 static uint32_t met[CALLS], replies; /* the numbers answered; the replies of stabilize: again, look, done */
 static uint32_t held_runs;           /* one run, two runs */
 static uint32_t principals;          /* not a principal, a principal */
+static uint32_t verdicts;            /* of a round: 1, 2 */
+static uint32_t most_rounds;         /* that a settle ran */
 
 static uint32_t table[RING_TABLE_WORDS_MOST], other[RING_TABLE_WORDS_MOST];
 static uint8_t image[RING_IMAGE_BYTES_MOST];
@@ -75,6 +79,8 @@ static struct ring_answer make(void)
     case 11: return ring_image_write(table, words, image, bytes);
     case 12: return ring_image_read(other, words, image, bytes);
     case PRINCIPAL: return ring_principal(table, words, a);
+    case ROUND: return ring_round(table, words);
+    case SETTLE: return ring_settle(table, words, a);
     default: return ring_image_field(image, bytes, at);
     }
 }
@@ -123,6 +129,8 @@ static void run(int c)
     if (c == 2 && answer.number == 0) replies |= BIT(answer.values[0]);
     if (c == HELD && runs.number == 0) held_runs |= BIT(runs.runs);
     if (c == PRINCIPAL && answer.number == 0) principals |= BIT(answer.values[0]);
+    if (c == ROUND && answer.number == 0) verdicts |= BIT(answer.values[0]);
+    if (c == SETTLE && answer.number == 0 && answer.values[0] > most_rounds) most_rounds = answer.values[0];
 }
 
 static void on(uint32_t of_r, size_t members, uint32_t gap)
@@ -143,6 +151,26 @@ static void held(size_t of, uint32_t last)
     if (of < 2) return;
     keys[of - 1]--, a = last, run(HELD);
     keys[of - 1]++;
+}
+
+/* A ring in which every second member but the first few was lost, a dead candidate is pending and a predecessor is dead: a round, settle with each sort of limit; and on a table that is not sound. */
+static void settled(uint32_t of_r, size_t members, uint32_t gap)
+{
+    size_t i;
+    on(of_r, members, gap);
+    a = 0, run(SETTLE);
+    a = 255, run(SETTLE);
+    for (i = of_r + 2; i < members; i += 2) a = (uint32_t)i * gap, run(5);
+    table[RING_TABLE_WORDS(of_r, 0) + 2] = 1, table[RING_TABLE_WORDS(of_r, 0) + 3] = 1; /* pending, dead */
+    table[RING_TABLE_WORDS(of_r, 1) + 1] = 1;
+    run(ROUND);
+    a = 0, run(SETTLE);
+    a = 1, run(SETTLE);
+    a = UINT32_MAX, run(SETTLE);
+    run(ROUND);
+    for (i = 0; i < of_r; i++) table[RING_TABLE_WORDS(of_r, 0) + 4 + i] = 3;
+    run(ROUND);
+    run(SETTLE);
 }
 
 /* Every call on a ring of so many members; ends with a table that is none. */
@@ -202,11 +230,12 @@ static void every(uint32_t of_r, size_t members)
     a = 3, run(1);                                                                      /* 4, though it is dead */
     words = RING_TABLE_WORDS_MOST;
     table[RING_TABLE_WORDS(of_r, members - 1) + 4] = 1, a = last + 1, b = last, run(1); /* 13, round the end */
+    settled(of_r, members, gap);
     a = 10, b = 30, r = 20, count = 256, run(10);
     r = 40, count = 0, run(10);
     table[0] = 9, count = 256, bytes = sizeof image, a = 0, b = 0;
     for (c = 1; c <= 11; c++) run(c);
-    run(PRINCIPAL);
+    run(PRINCIPAL), run(ROUND), run(SETTLE);
     count = KEYS, run(HELD);
 }
 
@@ -237,6 +266,10 @@ int main(void)
     }
     if (principals != (BIT(0) | BIT(1))) {
         printf("ring_principal: the replies %x were met\n", principals);
+        missing = 1;
+    }
+    if (verdicts != (BIT(1) | BIT(2)) || most_rounds < 3) {
+        printf("ring_round: the verdicts %x were met; ring_settle: at most %u rounds\n", verdicts, (unsigned)most_rounds);
         missing = 1;
     }
     return missing;

@@ -9,17 +9,17 @@ use lib.ListN.{length, getD, take, set}
 use borrow.Author.Tests.{eqb-true, eqb-false}
 use Rattle.model.specs.Lists.{if_then_else_, count}
 use Rattle.model.specs.Identifier.{space}
-use Rattle.model.specs.Table.{Table, size, tableOf, membersIn, ids, formed, wellFormed}
-use Rattle.model.specs.Ring.{live, named, principal, sound, ideal, verdict, nextUp}
+use Rattle.model.specs.Table.{Table, size, tableOf, membersIn, ids, formed}
+use Rattle.model.specs.Ring.{named, principal, ideal, verdict, nextUp}
 use Rattle.model.specs.Steps.{withSteps}
 use Rattle.model.specs.New.{newTable}
-use Rattle.model.specs.Settle.{finished, afterTurn, afterRound, afterRounds, roundsRun, afterSettle}
+use Rattle.model.specs.Settle.{afterRound, afterRounds, roundsRun, afterSettle}
 use Rattle.model.specs.Refusals.{settleRefusal}
 use Rattle.model.specs.Calls.{written, roundAnswer, roundWords, settleAnswer}
 use Rattle.laws.specs.Lists.{In, found, live-in, length-ids, any-in, count-any, count-length, count-not}
 use Rattle.laws.specs.Words.{written-table, written-same}
 use Rattle.laws.specs.Tables.{formed-facts, wellFormed-facts, sound-facts, facts-sound, formed-lists}
-use Rattle.theory.specs.Bound.{enough, rounds, AtRest, SettlesAfter, oneLess, document02, Ends, UntilDone}
+use Rattle.theory.specs.Bound.{enough, rounds, AtRest, SettlesAfter, oneLess, document02, EnoughIsFew, SettleEnds, StepsEnd}
 use Rattle.theory.specs.Keep.{Kept}
 use Rattle.theory.specs.Runs.{Good, written-good}
 use Rattle.theory.specs.New.{new-ideal}
@@ -129,7 +129,7 @@ module _ (w : ℕ) (T : Table) (k : Kept w T) where
       right-table (afterRound w U) (rest-round xs (k .formed .ids-rising) some pr w r U v) ∙ sym (ap (withSteps (afterRound w U .steps)) (right-table U v))
 
 -- the steps of a turn are never ended by the bound
-pub steps-end : (T : Table) → formed space T ≡ true → sound T ≡ true → (n : ℕ) → live (T .members) n ≡ true → UntilDone space n (finished space n T) (afterTurn space n T)
+pub steps-end : StepsEnd
 steps-end T f s n l = turn-until space n T (record { formed = formed-facts space T f; is-sound = sound-facts T s }) (live-in (T .members) n l)
 
 -- Slices
@@ -209,7 +209,7 @@ settles-after-enough ws wf so j h =
     (subst (λ (X : Table). afterRound space X ≡ withSteps (afterRound space X .steps) X) (sym e) (right-counts space T k U v))
 
 -- and at most members - 1
-pub enough-at-most : (ws : List ℕ) → sound (tableOf ws) ≡ true → enough ws ≤ oneLess ws
+pub enough-at-most : EnoughIsFew
 enough-at-most ws so = omega (arith, sound-facts (tableOf ws) so .enough, count-length (principal (membersIn ws)) (ids (membersIn ws)), length-ids (membersIn ws))
 
 pub settles-after-one-less : SettlesAfter oneLess
@@ -235,12 +235,12 @@ runs-to (suc limit) e T f h = go (eqb (verdict T) 2) refl e f h (λ e f h. runs-
     go false q zero f h ih = absurd (eqb-false _ 2 q (f 0 (omega arith)))
     go false q (suc e) f h ih = let g = ih e (λ j l. f (suc j) (omega arith)) (omega arith) in (omega (arith, g .0), g .1)
 
-pub settle-ends : (ws : List ℕ) → wellFormed ws ≡ true → sound (tableOf ws) ≡ true → (limit : ℕ) → enough ws ≤ limit → Ends ws limit
+pub settle-ends : SettleEnds enough
 unfolding settleAnswer
 settle-ends ws wf so limit h =
     let s : Good ws = record { well-formed = wf; is-sound = so } in
     let g = runs-to limit (enough ws) (tableOf ws) (λ j l. ap verdict (sym (after-rounds j ws s .1)) ∙ settles-after-enough ws wf so j l .verdict-2) h in
     record { rounds-run = roundsRun space limit (tableOf ws); few = g .0; reports = rw (accepts ws s, g .1) }
 
-pub settle-ends-one-less : (ws : List ℕ) → wellFormed ws ≡ true → sound (tableOf ws) ≡ true → (limit : ℕ) → oneLess ws ≤ limit → Ends ws limit
+pub settle-ends-one-less : SettleEnds oneLess
 settle-ends-one-less ws wf so limit h = settle-ends ws wf so limit (omega (arith, enough-at-most ws so))
