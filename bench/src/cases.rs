@@ -43,10 +43,14 @@ pub enum Call {
     #[cfg(feature = "whole")]
     Findings,
     #[cfg(feature = "whole")]
+    Round,
+    #[cfg(feature = "whole")]
+    Settle(Lists),
+    #[cfg(feature = "whole")]
     ImageWrite,
     #[cfg(feature = "whole")]
     ImageRead,
-    /// No call, but the copying back that the case LeaveOk does after each call.
+    /// No call, but the copying back that the cases LeaveOk and Settle do after each call.
     Restore,
 }
 
@@ -77,6 +81,12 @@ pub const CALLS: &[(&str, Call)] = &[
     ("principal-half", Call::PrincipalHalf),
     #[cfg(feature = "whole")]
     ("findings", Call::Findings),
+    #[cfg(feature = "whole")]
+    ("round-settled", Call::Round),
+    #[cfg(feature = "whole")]
+    ("settle-churn", Call::Settle(Lists::Lost)),
+    #[cfg(feature = "whole")]
+    ("settle-worst", Call::Settle(Lists::Slowest)),
     #[cfg(feature = "whole")]
     ("image-write", Call::ImageWrite),
     #[cfg(feature = "whole")]
@@ -139,6 +149,8 @@ impl Case {
         let ids = identifiers(count);
         let lists = match call {
             Call::Audit(lists) | Call::AuditEarly(lists) => lists,
+            #[cfg(feature = "whole")]
+            Call::Settle(lists) => lists,
             _ => Lists::Settled,
         };
         let mut table = table(lists, r, &ids);
@@ -206,7 +218,7 @@ impl Case {
                 Lists::Settled => answer(0, [n, n, n, 2]),
                 Lists::Late => answer(0, [n, n, n, 1]),
                 Lists::Half => answer(0, [n, n / 2, n / 2, 1]),
-                Lists::Random => same::audit(&table),
+                _ => same::audit(&table),
             },
             Call::Alike => answer(0, [1]),
             #[cfg(feature = "whole")]
@@ -228,6 +240,15 @@ impl Case {
             }
             #[cfg(feature = "whole")]
             Call::Findings => answer(0, [n, n, n, 2]),
+            #[cfg(feature = "whole")]
+            Call::Round => answer(0, [2]),
+            #[cfg(feature = "whole")]
+            Call::Settle(_) => {
+                x = u32::MAX;
+                let told = same::settle(&mut table.clone(), x);
+                assert_eq!((told.number, told.values[1]), (0, 2));
+                told
+            }
             #[cfg(feature = "whole")]
             Call::ImageWrite => answer(0, [13 + n * (16 + 4 * r)]),
             #[cfg(feature = "whole")]
@@ -342,6 +363,14 @@ macro_rules! runner {
                     ))
                 }
                 #[cfg(feature = "whole")]
+                Call::Round => repeat!($side::round(black_box(table))),
+                #[cfg(feature = "whole")]
+                Call::Settle(_) => repeat!({
+                    let answer = $side::settle(black_box(table), black_box(x));
+                    table.copy_from_slice(black_box(other));
+                    answer
+                }),
+                #[cfg(feature = "whole")]
                 Call::ImageWrite => {
                     repeat!($side::image_write(
                         black_box(table),
@@ -403,6 +432,14 @@ fn steps(name: &str, r: u32, ours: &Case, theirs: &Case) {
         "leave-accepted" => {
             let (p, q) = (library::leave(&mut a, ours.x), same::leave(&mut b, ours.x));
             assert!(p.number == 0 && p == q && a == b, "{}", differ("leave"));
+        }
+        #[cfg(feature = "whole")]
+        "settle-churn" | "settle-worst" => {
+            let (p, q) = (
+                library::settle(&mut a, ours.x),
+                same::settle(&mut b, ours.x),
+            );
+            assert!(p.number == 0 && p == q && a == b, "{}", differ("settle"));
         }
         _ => {}
     }

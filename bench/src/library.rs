@@ -65,7 +65,7 @@ pub fn alike(a: &[u32], b: &[u32]) -> Answer {
 }
 
 #[cfg(feature = "whole")]
-pub use whole::{findings, held, image_read, image_write, principal};
+pub use whole::{findings, held, image_read, image_write, principal, round, settle};
 
 #[cfg(feature = "whole")]
 mod whole {
@@ -86,6 +86,8 @@ mod whole {
             findings: *mut Finding,
             count: usize,
         ) -> Answer;
+        fn ring_round(table: *mut u32, words: usize) -> Answer;
+        fn ring_settle(table: *mut u32, words: usize, limit: u32) -> Answer;
         fn ring_image_write(
             table: *const u32,
             words: usize,
@@ -116,6 +118,16 @@ mod whole {
                 findings.len(),
             )
         }
+    }
+
+    #[inline(always)]
+    pub fn round(words: &mut [u32]) -> Answer {
+        unsafe { ring_round(words.as_mut_ptr(), words.len()) }
+    }
+
+    #[inline(always)]
+    pub fn settle(words: &mut [u32], limit: u32) -> Answer {
+        unsafe { ring_settle(words.as_mut_ptr(), words.len(), limit) }
     }
 
     #[inline(always)]

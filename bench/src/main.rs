@@ -144,6 +144,31 @@ fn early(effort: &Effort) {
     }
 }
 
+/// The rounds that each settling runs, beside those that are enough by the audit.
+#[cfg(feature = "whole")]
+fn rounds() {
+    println!(
+        "{:<13} {:>1} {:>8} {:>11} {:>7} {:>25} {:>12}",
+        "call", "r", "members", "principals", "rounds", "members - principals + r", "members - 1"
+    );
+    for &(name, call) in CALLS {
+        if !matches!(call, Call::Settle(_)) {
+            continue;
+        }
+        for r in LISTS {
+            agree(name, call, r);
+            let case = Case::new(call, r);
+            let [members, principals, ..] = same::audit(&case.table).values;
+            println!(
+                "{name:<13} {r:>1} {members:>8} {principals:>11} {:>7} {:>25} {:>12}",
+                case.expected.values[0],
+                members - principals + r,
+                members - 1
+            );
+        }
+    }
+}
+
 /// One call on one side only, so often: for a counter of instructions.
 fn count(words: &[String]) -> Option<()> {
     let [name, r, side, times] = words else {
@@ -171,6 +196,11 @@ fn main() {
             early(&USUAL);
             Some(())
         }
+        #[cfg(feature = "whole")]
+        Some("--rounds") if words.len() == 1 => {
+            rounds();
+            Some(())
+        }
         Some("--calls") if words.len() == 1 => {
             CALLS.iter().for_each(|(name, _)| println!("{name}"));
             Some(())
@@ -179,7 +209,7 @@ fn main() {
     };
     if done.is_none() {
         eprintln!(
-            "bench [--quick] [CALL...] | --early | --calls | --count CALL R library|rust TIMES"
+            "bench [--quick] [CALL...] | --early | --rounds | --calls | --count CALL R library|rust TIMES"
         );
         exit(2);
     }

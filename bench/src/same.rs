@@ -4,8 +4,12 @@
 //! a member: identifier, predecessor, pending, candidate and r successors, by rising identifier.
 
 mod calls;
+#[cfg(feature = "whole")]
+mod settle;
 
 pub use calls::*;
+#[cfg(feature = "whole")]
+pub use settle::{round, settle};
 
 use std::slice::ChunksExact;
 
@@ -307,12 +311,17 @@ impl<'a> Table<'a> {
             .count()
     }
 
+    /// Each list has a live entry, there are r + 1 principals, and each pending candidate lies inside.
+    #[inline(always)]
+    fn is_sound(&self, best: &[u16], principals: usize) -> bool {
+        best.iter().all(|&b| usize::from(b) < self.members)
+            && principals > self.r
+            && self.records().all(candidate_inside)
+    }
+
     /// 0 not sound, 1 sound, 2 sound and ideal.
     fn verdict(&self, best: &[u16], principals: usize) -> u32 {
-        let sound = best.iter().all(|&b| usize::from(b) < self.members)
-            && principals > self.r
-            && self.records().all(candidate_inside);
-        if !sound {
+        if !self.is_sound(best, principals) {
             0
         } else if self.is_ideal() {
             2

@@ -1,4 +1,4 @@
-//! The tables that calls are measured on: settled, settled but for one entry, half settled, or with random lists.
+//! The tables that calls are measured on: settled, settled but for one entry, half settled, with random lists, or to be settled.
 
 use crate::same::{self, answer};
 
@@ -16,6 +16,12 @@ pub enum Lists {
     Half,
     /// Each r different members, not its own, by a fixed generator.
     Random,
+    /// Each second member was lost, and no step was made since.
+    #[cfg(feature = "whole")]
+    Lost,
+    /// The lowest r + 1 members settled; all the others have joined by the highest of them, and no step was made since.
+    #[cfg(feature = "whole")]
+    Slowest,
 }
 
 fn next(state: &mut u32) -> u32 {
@@ -49,6 +55,21 @@ pub fn table(lists: Lists, r: u32, ids: &[u32]) -> Vec<u32> {
             make(&old);
             for pair in ids.chunks_exact(2) {
                 assert_eq!(same::join(&mut table, pair[1], pair[0]).number, 0);
+            }
+        }
+        #[cfg(feature = "whole")]
+        Lists::Lost => {
+            make(ids);
+            for pair in ids.chunks_exact(2) {
+                assert_eq!(same::fail(&mut table, pair[1]).number, 0);
+            }
+        }
+        #[cfg(feature = "whole")]
+        Lists::Slowest => {
+            let (old, new) = ids.split_at(r as usize + 1);
+            make(old);
+            for &id in new {
+                assert_eq!(same::join(&mut table, id, old[r as usize]).number, 0);
             }
         }
         Lists::Random => {

@@ -1,6 +1,6 @@
-/* A firmware main loop in small: it starts a ring, lets shelves join, stabilize and leave, tries a join again that was declined behind a dead
-   neighbour, pulls neighbouring shelves from a ring with verdict 2, saves and restores the table, looks keys up, and asks which keys a shelf
-   holds and whether it is a principal. Every call of include/ring.h is used, and each answer is compared with what documents 01 and 02 say.
+/* A firmware main loop in small: it starts a ring, lets shelves join, stabilize and leave, settles the ring after churn, tries a join again that
+   was declined behind a dead neighbour, pulls neighbouring shelves from a ring with verdict 2, saves and restores the table, looks keys up, and
+   asks which keys a shelf holds and whether it is a principal. Every call of include/ring.h is used, and each answer is compared with what documents 01 and 02 say.
    Exit status 0, and 'firmware: N checks' on standard output. */
 
 #include "ring.h"
@@ -42,21 +42,40 @@ static void expect_true(const char *what, int holds)
     }
 }
 
-/* One round of a shelf: stabilize steps until done, then the notice to the shelf named; a notice to no member is refused, and lost.
-   r + 1 steps are enough on a sound table; on another they end the round all the same. Returns the steps made, 0 where done did not come. */
-static uint32_t round_of(uint32_t *table, size_t words, uint32_t n)
+/* The turn of a shelf: a pending step is finished and its notice delivered, then stabilize steps until done, and the notice to the shelf named;
+   a notice to no member is refused, and lost. r + 1 steps after the pending one are enough on a sound table; on another they end the turn all
+   the same. Returns the steps made, 0 where done did not come. */
+static uint32_t turn_of(uint32_t *table, size_t words, uint32_t place)
 {
-    const uint32_t most = table[0] + 1;
-    uint32_t step;
-    for (step = 1; step <= most; step++) {
-        struct ring_answer a = ring_stabilize(table, words, n);
+    const uint32_t r = table[0];
+    const uint32_t *const record = table + RING_TABLE_WORDS(r, place);
+    const uint32_t n = record[0], pending = record[2];
+    uint32_t step, done = 0;
+    for (step = 1; step <= r + 1 + pending; step++) {
+        const struct ring_answer a = ring_stabilize(table, words, n);
         if (a.number != 0) return 0;
         if (a.values[0] == 2) {
             ring_rectify(table, words, a.values[1], n);
-            return step;
+            if (done++ == pending) return step;
         }
     }
     return 0;
+}
+
+/* The turns of all shelves, which are a round. Returns the steps made, 0 where one was not done. */
+static uint32_t turns_of(uint32_t *table, size_t words)
+{
+    uint32_t place, steps, all = 0;
+    for (place = 0; place < table[1]; place++, all += steps)
+        if ((steps = turn_of(table, words, place)) == 0) return 0;
+    return all;
+}
+
+/* How many rounds are enough: members - principals + r, by the audit. */
+static uint32_t rounds_enough(const uint32_t *table, size_t words)
+{
+    const struct ring_answer a = ring_audit(table, words);
+    return a.values[0] - a.values[1] + table[0];
 }
 
 /* A shelf joins by p. Where p's first entry is dead, the join is declined by 13: p makes a step, and the join is tried again. On a sound table r
@@ -126,7 +145,8 @@ int main(void)
     const size_t words = RING_TABLE_WORDS_MOST;
     const uint32_t ids[] = {10, 20, 30, 40};
     struct ring_answer a;
-    size_t i, bytes, at, late = 0, joined = 0;
+    size_t i, bytes, at, joined = 0;
+    uint32_t enough;
 
     expect_true("sizes", sizeof(struct ring_answer) == 24 && sizeof(struct ring_finding) == 12 && sizeof(struct ring_runs) == 40);
 
@@ -156,9 +176,32 @@ int main(void)
     for (i = 0; i < 100; i++)
         joined += ring_join(table, words, 1000 + 7 * (uint32_t)i, i == 0 ? 40 : 1000 + 7 * ((uint32_t)i - 1)).number == 0;
     expect_true("each of 100 joins is accepted", joined == 100);
-    for (i = 0; i < 1000 && ring_audit(table, words).values[3] != 2; i++)
-        for (at = 0; at < table[1]; at++) late += round_of(table, words, table[RING_TABLE_WORDS(2, at)]) == 0;
-    expect_true("done within r + 1 steps", late == 0);
+    enough = rounds_enough(table, words);
+    memcpy(kept, table, sizeof kept);
+    expect("limit 0 tells the verdict", ring_settle(table, words, 0), 0, 2, 0, 1, 0, 0);
+    expect_true("and runs no round", memcmp(kept, table, sizeof kept) == 0);
+    memcpy(other, table, sizeof other);
+    expect_true("each shelf is done", turns_of(other, words) >= 104);
+    expect("a round", ring_round(table, words), 0, 1, 1, 0, 0, 0);
+    expect_true("is the turns of all shelves", memcmp(other, table, sizeof other) == 0);
+    memcpy(table, kept, sizeof kept);
+    a = ring_settle(table, words, enough);
+    expect("settle", a, 0, 2, a.values[0], 2, 0, 0);
+    expect_true("in no more rounds than are enough", a.values[0] > 1 && a.values[0] <= enough && enough < 104);
+    memcpy(other, kept, sizeof kept);
+    expect("with one round less", ring_settle(other, words, a.values[0] - 1), 0, 2, a.values[0] - 1, 1, 0, 0);
+    expect("the last one by itself", ring_round(other, words), 0, 1, 2, 0, 0, 0);
+    expect_true("leads to the same table", memcmp(other, table, sizeof other) == 0);
+    memcpy(other, kept, sizeof kept);
+    expect("with as many", ring_settle(other, words, a.values[0]), 0, 2, a.values[0], 2, 0, 0);
+    expect_true("too", memcmp(other, table, sizeof other) == 0);
+    expect("an ideal ring gets no round", ring_settle(other, words, 4294967295u), 0, 2, 0, 2, 0, 0);
+    expect_true("and stays", memcmp(other, table, sizeof other) == 0);
+    while (++a.values[0] <= enough) ring_round(other, words);
+    memcpy(kept, other, sizeof kept);
+    expect("a round after enough", ring_round(other, words), 0, 1, 2, 0, 0, 0);
+    kept[2] += 104;
+    expect_true("changes the step count alone", memcmp(other, kept, sizeof other) == 0);
     expect("settled", ring_audit(table, words), 0, 4, 104, 104, 104, 2);
     expect_true("all are principals", principals(table, words) == 104);
 
@@ -170,12 +213,12 @@ int main(void)
         expect("six shelves", ring_new(other, words, 2, six, 6), 0, 1, 6, 0, 0, 0);
         expect("ideal", ring_audit(other, words), 0, 4, 6, 6, 6, 2);
         expect("the loss of 30", ring_fail(other, words, 30), 0, 1, 5, 0, 0, 0);
-        expect_true("20 is done", round_of(other, words, 20) == 3);
+        expect_true("20 is done", turn_of(other, words, 1) == 3);
         expect("only a second entry is old", ring_audit(other, words), 0, 4, 5, 5, 5, 1);
         memcpy(kept, other, sizeof kept);
         expect("10 would be cut off", ring_leave(other, words, 20), 6, 0, 0, 0, 0, 0);
         expect_true("that writes nothing", memcmp(kept, other, sizeof kept) == 0);
-        expect_true("10 is done", round_of(other, words, 10) == 1);
+        expect_true("10 is done", turn_of(other, words, 0) == 1);
         expect("ideal then", ring_audit(other, words), 0, 4, 5, 5, 5, 2);
         expect("20 may go", ring_leave(other, words, 20), 0, 1, 4, 0, 0, 0);
         expect("40 no longer", ring_leave(other, words, 40), 6, 0, 0, 0, 0, 0);
@@ -204,6 +247,63 @@ int main(void)
         expect("a full ring is ideal", ring_audit(other, words), 0, 4, 256, 256, 256, 2);
         other[RING_TABLE_WORDS(8, 256) - 1] = 27;
         expect("but for its last entry", ring_audit(other, words), 0, 4, 256, 256, 256, 1);
+    }
+
+    /* The ring that takes longest: r + 1 shelves, and all others have joined by the highest of them. It takes members - 1 rounds. A pending step
+       is finished first: 10 awaits the lost 15, on an ideal ring too, which settle leaves alone and a round does not; behind the lost 20 its
+       notice is lost. The step count stops at its highest number. */
+    {
+        const uint32_t three[] = {0, 1, 2};
+        expect("three shelves", ring_new(other, words, 2, three, 3), 0, 1, 3, 0, 0, 0);
+        for (joined = 0, i = 3; i < 256; i++) joined += ring_join(other, words, (uint32_t)i, 2).number == 0;
+        expect_true("253 join by the highest", joined == 253);
+        expect("three principals", ring_audit(other, words), 0, 4, 256, 3, 3, 1);
+        expect_true("255 rounds are enough", rounds_enough(other, words) == 255);
+        memcpy(kept, other, sizeof kept);
+        expect("and none too many", ring_settle(kept, words, 65536), 0, 2, 255, 2, 0, 0);
+        expect("254 are not", ring_settle(other, words, 254), 0, 2, 254, 1, 0, 0);
+        expect("one more", ring_settle(other, words, 4294967295u), 0, 2, 1, 2, 0, 0);
+        expect("settled, 256 shelves", ring_audit(other, words), 0, 4, 256, 256, 256, 2);
+
+        expect("four shelves again", ring_new(other, words, 2, ids, 4), 0, 1, 4, 0, 0, 0);
+        other[5] = 1, other[6] = 15;
+        memcpy(kept, other, sizeof kept);
+        expect("ideal while a step is pending", ring_settle(other, words, 9), 0, 2, 0, 2, 0, 0);
+        expect_true("which settle leaves", memcmp(kept, other, sizeof kept) == 0);
+        expect("a round finishes it", ring_round(other, words), 0, 1, 2, 0, 0, 0);
+        kept[2] = 5;
+        kept[5] = kept[6] = 0;
+        expect_true("by one step more", memcmp(kept, other, sizeof kept) == 0);
+        other[5] = 1, other[6] = 15;
+        expect("the loss of 20 ahead", ring_fail(other, words, 20), 0, 1, 3, 0, 0, 0);
+        expect("done, nobody told, again, look, done; done; done", ring_round(other, words), 0, 1, 2, 0, 0, 0);
+        expect_true("six steps", other[2] == 11);
+        other[2] = 4294967293u;
+        expect("three steps", ring_round(other, words), 0, 1, 2, 0, 0, 0);
+        expect_true("and the count stops", other[2] == 4294967295u);
+
+        ring_new(other, words, 2, ids, 4);
+        expect("12 joins", ring_join(other, words, 12, 10), 0, 1, 5, 0, 0, 0);
+        expect_true("20 takes its notice", turn_of(other, words, 1) == 1);
+        expect("10 looks at it", ring_stabilize(other, words, 10), 0, 2, 1, 12, 0, 0);
+        expect("it is lost", ring_fail(other, words, 12), 0, 1, 4, 0, 0, 0);
+        expect("20 has 10's notice first", ring_round(other, words), 0, 1, 2, 0, 0, 0);
+        expect_true("so 10 looks at nobody", other[2] == 7);
+
+        /* Refused: three shelves of which one was lost are not sound; a table longer than its slice. */
+        expect("three shelves of 2", ring_new(other, words, 2, ids, 3), 0, 1, 3, 0, 0, 0);
+        expect("one is lost", ring_fail(other, words, 20), 0, 1, 2, 0, 0, 0);
+        memcpy(kept, other, sizeof kept);
+        expect("no round", ring_round(other, words), 14, 0, 0, 0, 0, 0);
+        expect("no settling", ring_settle(other, words, 5), 14, 0, 0, 0, 0, 0);
+        expect("nor with limit 0", ring_settle(other, words, 0), 14, 0, 0, 0, 0, 0);
+        expect("1 before 14, a round", ring_round(other, RING_TABLE_WORDS(2, 2) - 1), 1, 0, 0, 0, 0, 0);
+        expect("1 before 14, settle", ring_settle(other, RING_TABLE_WORDS(2, 2) - 1, 5), 1, 0, 0, 0, 0, 0);
+        expect_true("a refused one writes nothing", memcmp(kept, other, sizeof kept) == 0);
+        memcpy(kept, table, sizeof kept);
+        expect("no round of a table cut short", ring_round(table, RING_TABLE_WORDS(2, 104) - 1), 1, 0, 0, 0, 0, 0);
+        expect("nor settling", ring_settle(table, RING_TABLE_WORDS(2, 104) - 1, 0), 1, 0, 0, 0, 0, 0);
+        expect_true("that writes nothing either", memcmp(kept, table, sizeof kept) == 0);
     }
 
     /* Saved, looked at field by field, and restored. */

@@ -68,17 +68,12 @@ pub fn join(words: &mut [u32], j: u32, p: u32) -> Answer {
     reply([words[1]])
 }
 
-#[inline(never)]
-pub fn stabilize(words: &mut [u32], n: u32) -> Answer {
-    let Some(t) = Table::open(words) else {
-        return declined(1);
-    };
-    let Some(k) = t.place(n) else {
-        return declined(3);
-    };
+/// The record at place k after one stabilize step, and what the step says.
+#[inline(always)]
+pub(super) fn stepped(t: &Table, k: usize) -> (Member, Answer) {
     let member = Member::read(t.record(k));
     let head = member.successors[0];
-    let (member, said) = if member.pending == 1 {
+    if member.pending == 1 {
         let c = member.candidate;
         match t.place(c) {
             Some(s) => {
@@ -91,14 +86,32 @@ pub fn stabilize(words: &mut [u32], n: u32) -> Answer {
         let successor = Member::read(t.record(s));
         let c = successor.predecessor;
         let adopted = member.adopt(head, &successor.successors);
-        if between(n, c, head) {
+        if between(member.id, c, head) {
             (adopted.await_candidate(c), reply([1, c]))
         } else {
             (adopted, reply([2, head]))
         }
     } else {
         (member.drop_head(t.r), reply([0]))
+    }
+}
+
+/// Does the member at place k take q as its predecessor?
+#[inline(always)]
+pub(super) fn takes(t: &Table, k: usize, q: u32) -> bool {
+    let record = t.record(k);
+    between(record[1], q, record[0]) || t.place(record[1]).is_none()
+}
+
+#[inline(never)]
+pub fn stabilize(words: &mut [u32], n: u32) -> Answer {
+    let Some(t) = Table::open(words) else {
+        return declined(1);
     };
+    let Some(k) = t.place(n) else {
+        return declined(3);
+    };
+    let (member, said) = stepped(&t, k);
     let (at, width) = (t.offset(k), t.width);
     member.write(&mut words[at..at + width]);
     words[2] = words[2].saturating_add(1);
@@ -113,8 +126,7 @@ pub fn rectify(words: &mut [u32], n: u32, q: u32) -> Answer {
     let Some(k) = t.place(n) else {
         return declined(3);
     };
-    let predecessor = t.record(k)[1];
-    if between(predecessor, q, n) || t.place(predecessor).is_none() {
+    if takes(&t, k, q) {
         let at = t.offset(k);
         words[at + 1] = q;
         reply([1])

@@ -1,4 +1,4 @@
-//! The sixteen calls as one value, so that a side can be exchanged.
+//! The eighteen calls as one value, so that a side can be exchanged.
 
 use crate::reference::{Answer, Finding, Runs};
 
@@ -14,6 +14,8 @@ pub struct Calls {
     pub principal: fn(&[u32], u32) -> Answer,
     pub audit: fn(&[u32]) -> Answer,
     pub findings: fn(&[u32], &mut [Finding]) -> Answer,
+    pub round: fn(&mut [u32]) -> Answer,
+    pub settle: fn(&mut [u32], u32) -> Answer,
     pub alike: fn(&[u32], &[u32]) -> Answer,
     pub take_over: fn(u32, u32, u32, &[u32], &[u32]) -> Answer,
     pub image_write: fn(&[u32], &mut [u8]) -> Answer,
@@ -37,6 +39,8 @@ macro_rules! calls_of {
             principal: $($module)::+::principal,
             audit: $($module)::+::audit,
             findings: $($module)::+::findings,
+            round: $($module)::+::round,
+            settle: $($module)::+::settle,
             alike: $($module)::+::alike,
             take_over: $($module)::+::take_over,
             image_write: $($module)::+::image_write,

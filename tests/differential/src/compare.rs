@@ -4,22 +4,28 @@
 mod alone;
 mod ideal;
 mod join;
+mod lent;
 mod lone;
 mod parts;
 mod principal;
+mod settle;
 mod shapes;
+mod turns;
 mod withdrawals;
 
 use crate::calls::{Calls, REFERENCE};
 use crate::random::mix;
-use crate::reference::{Answer, Finding, Runs};
+use crate::reference::{Answer, Runs};
 use alone::Alone;
 use ideal::Ideals;
 use join::Joins;
+use lent::{nothing, Lent};
+pub use lent::{Element, Piece};
 use parts::Parts;
 use principal::Principals;
-use std::fmt::Debug;
+use settle::Settles;
 use std::sync::atomic::{AtomicUsize, Ordering};
+use turns::Turns;
 use withdrawals::Withdrawals;
 
 /// The call under way on the library's side, as a place in `NAMES` plus 1, so
@@ -39,7 +45,7 @@ fn watched<T>(index: usize, call: impl FnOnce() -> T) -> T {
     given
 }
 
-const CALLS: usize = 16;
+const CALLS: usize = 18;
 
 pub const NAMES: [&str; CALLS] = [
     "new",
@@ -53,6 +59,8 @@ pub const NAMES: [&str; CALLS] = [
     "principal",
     "audit",
     "findings",
+    "round",
+    "settle",
     "alike",
     "take_over",
     "image_write",
@@ -60,105 +68,8 @@ pub const NAMES: [&str; CALLS] = [
     "image_field",
 ];
 
-/// An input or output slice: the first `len` elements of `all` are lent. The
-/// others stand right after the slice, where a call that goes past the end
-/// would meet them.
-#[derive(Clone, Debug)]
-pub struct Piece<T> {
-    pub all: Vec<T>,
-    pub len: usize,
-}
-
-impl<T: Copy> Piece<T> {
-    pub fn whole(all: Vec<T>) -> Piece<T> {
-        let len = all.len();
-        Piece { all, len }
-    }
-
-    pub fn cut(all: &[T], len: usize) -> Piece<T> {
-        Piece { all: all.to_vec(), len }
-    }
-
-    pub fn slice(&self) -> &[T] {
-        &self.all[..self.len]
-    }
-}
-
-fn nothing<T: Copy>() -> Piece<T> {
-    Piece::whole(Vec::new())
-}
-
-/// What a guard is made of.
-pub trait Element: Copy + PartialEq + Debug {
-    fn of(seed: u64) -> Self;
-}
-
-impl Element for u32 {
-    fn of(seed: u64) -> u32 {
-        seed as u32
-    }
-}
-
-impl Element for u8 {
-    fn of(seed: u64) -> u8 {
-        seed as u8
-    }
-}
-
-impl Element for Finding {
-    fn of(seed: u64) -> Finding {
-        Finding { id: seed as u32, principal: (seed >> 16) as u32, moves: (seed >> 32) as u32 }
-    }
-}
-
 fn place(name: &str) -> usize {
     NAMES.iter().position(|&n| n == name).expect("a known call")
-}
-
-/// A buffer with the lent slice in its middle.
-#[derive(Clone)]
-struct Lent<T> {
-    all: Vec<T>,
-    start: usize,
-    len: usize,
-}
-
-impl<T: Element> Lent<T> {
-    fn new(piece: &Piece<T>, seed: u64) -> Lent<T> {
-        // The start varies, so that byte slices stand at every alignment.
-        let start = 13 + (seed % 8) as usize;
-        let mut all = Vec::with_capacity(start + piece.all.len() + 16);
-        let mut guard = mix(seed);
-        let mut next = || {
-            guard = guard.wrapping_mul(6364136223846793005).wrapping_add(1442695040888963407);
-            T::of(guard >> 16)
-        };
-        all.extend((0..start).map(|_| next()));
-        all.extend_from_slice(&piece.all);
-        all.extend((0..16).map(|_| next()));
-        Lent { all, start, len: piece.len }
-    }
-
-    fn slice(&mut self) -> &mut [T] {
-        &mut self.all[self.start..self.start + self.len]
-    }
-
-    /// Where two copies differ, told in places of the slice.
-    fn differences(&self, other: &Lent<T>) -> Vec<String> {
-        self.all
-            .iter()
-            .zip(&other.all)
-            .enumerate()
-            .filter(|(_, (a, b))| a != b)
-            .take(20)
-            .map(|(i, (a, b))| {
-                let place = i as i64 - self.start as i64;
-                let inside = place >= 0 && place < self.len as i64;
-                let note = if inside { "" } else { " (guard)" };
-                format!("    at {place}{note}: reference {a:?}, library {b:?}")
-            })
-            .collect()
-    }
 }
 
 /// What a call answers.
@@ -185,6 +96,8 @@ impl Reply for Answer {
         match name {
             "stabilize" | "rectify" | "principal" | "alike" | "take_over" => self.values[0],
             "audit" | "findings" => self.values[3],
+            "round" => self.values[0],
+            "settle" => self.values[1],
             _ => 0,
         }
     }
@@ -206,7 +119,7 @@ impl Reply for Runs {
 
 /// The numbers each call can give, in the order of `NAMES`. Stabilize's three
 /// replies and audit's three verdicts count as 0, 20 and 21, no and yes as 0 and
-/// 20, held's one run and two as 20 and 21.
+/// 20, held's one run and two as 20 and 21, a round's and settle's verdicts 1 and 2 too.
 const POSSIBLE: [&[usize]; CALLS] = [
     &[0, 10, 11],
     &[0, 1, 2, 3, 4, 13, 5],
@@ -219,6 +132,8 @@ const POSSIBLE: [&[usize]; CALLS] = [
     &[0, 20, 1, 3],
     &[0, 20, 21, 1],
     &[0, 20, 21, 1, 10],
+    &[20, 21, 1, 14],
+    &[20, 21, 1, 14],
     &[0, 20, 1],
     &[0, 20],
     &[0, 1, 10],
@@ -237,6 +152,8 @@ pub struct Compare {
     ideals: Ideals,
     alone: Alone,
     withdrawals: Withdrawals,
+    settles: Settles,
+    turns: Turns,
     /// Tells each call on standard error before it is made.
     pub trace: bool,
 }
@@ -262,6 +179,8 @@ impl Compare {
             ideals: Ideals::new(),
             alone: Alone::new(),
             withdrawals: Withdrawals::new(),
+            settles: Settles::new(),
+            turns: Turns::new(),
             trace: false,
         }
     }
@@ -284,7 +203,9 @@ impl Compare {
         text += &format!("  join: {}\n", self.joins.told());
         text += &format!("  ideal: {}\n", self.ideals.told());
         text += &format!("  alone: {}\n", self.alone.told());
-        text + &format!("  withdrawals: {}\n", self.withdrawals.told())
+        text += &format!("  withdrawals: {}\n", self.withdrawals.told());
+        text += &format!("  settle: {}\n", self.settles.told());
+        text + &format!("  turns: {}\n", self.turns.told())
     }
 
     /// A call with a number that it can give but never gave, or a shape that
@@ -304,6 +225,8 @@ impl Compare {
             ("ideal:", self.ideals.never_met()),
             ("alone:", self.alone.never_met()),
             ("withdrawals:", self.withdrawals.never_met()),
+            ("settle:", self.settles.never_met()),
+            ("turns:", self.turns.never_met()),
         ];
         let never = |(what, shape): &(_, Option<_>)| shape.map(|shape| format!("{what} {shape}"));
         shapes.iter().find_map(never).or(self.ideals.kinds_never_met())

@@ -36,6 +36,8 @@ mod library {
             findings: *mut Finding,
             count: usize,
         ) -> Answer;
+        pub fn ring_round(table: *mut u32, words: usize) -> Answer;
+        pub fn ring_settle(table: *mut u32, words: usize, limit: u32) -> Answer;
         pub fn ring_alike(a: *const u32, a_words: usize, b: *const u32, b_words: usize) -> Answer;
         pub fn ring_take_over(
             own: u32,
@@ -107,6 +109,10 @@ forward! {
         = ring_audit(table.as_ptr(), table.len());
     fn findings(table: &[u32], findings: &mut [Finding]) -> Answer
         = ring_findings(table.as_ptr(), table.len(), findings.as_mut_ptr(), findings.len());
+    fn round(table: &mut [u32]) -> Answer
+        = ring_round(table.as_mut_ptr(), table.len());
+    fn settle(table: &mut [u32], limit: u32) -> Answer
+        = ring_settle(table.as_mut_ptr(), table.len(), limit);
     fn alike(a: &[u32], b: &[u32]) -> Answer
         = ring_alike(a.as_ptr(), a.len(), b.as_ptr(), b.len());
     fn take_over(own: u32, h: u32, c: u32, h_list: &[u32], c_list: &[u32]) -> Answer

@@ -1,6 +1,10 @@
 //! Makes inputs: identifiers, tables well-formed and not, images whole and
 //! damaged.
 
+mod sound;
+
+pub use sound::{slowest, sound, Ring};
+
 use crate::compare::Piece;
 use crate::random::Random;
 

@@ -3,8 +3,10 @@
 //! A refusal changes no buffer, and only the words a call writes change.
 
 mod calls;
+mod steps;
 
 pub use calls::*;
+pub use steps::{round, settle};
 
 /// `number` is 0 or the number that declines; `count` values are there, unused ones are 0.
 #[repr(C)]

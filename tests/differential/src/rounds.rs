@@ -5,13 +5,17 @@ mod held;
 mod ideal;
 mod images;
 mod join;
+mod others;
 mod principal;
+mod settle;
 
 use held::{held, held_calls};
 use ideal::{full_ideal, ideal};
 use images::{image, read_image};
 use join::join;
+use others::{alike, new, take_over};
 use principal::principal;
+use settle::{full_settling, settle_calls, settling};
 
 use crate::compare::{Compare, Element, Piece};
 use crate::make::{self, Raw, Space};
@@ -23,7 +27,7 @@ type Result = std::result::Result<(), String>;
 type Round = fn(&mut Compare, &mut Random) -> Result;
 
 /// The kinds of rounds in turn.
-const KINDS: [(&str, Round); 19] = [
+const KINDS: [(&str, Round); 20] = [
     ("tiny", tiny),
     ("sound churn", sound_churn),
     ("broken", broken),
@@ -43,16 +47,19 @@ const KINDS: [(&str, Round); 19] = [
     ("principal", principal),
     ("join", join),
     ("ideal", ideal),
+    ("settle", settling),
 ];
 
 /// Runs one round; the error tells what differs and how to see it again.
 pub fn round(compare: &mut Compare, seed: u64, number: u64) -> Result {
     let mut random = Random::new(mix(seed).wrapping_add(mix(number)));
-    // Full tables take long, so they come in every fourth turn only, or every eighth.
+    // Full tables take long, so they come in every fourth turn only, or every eighth or
+    // sixteenth.
     let kinds = KINDS.len();
-    let (kind, run) = match number as usize % (8 * kinds) {
+    let (kind, run) = match number as usize % (16 * kinds) {
         turn if turn % (4 * kinds) == 15 => ("full", full as Round),
-        18 => ("full ideal", full_ideal as Round),
+        turn if turn % (8 * kinds) == 18 => ("full ideal", full_ideal as Round),
+        19 => ("full settle", full_settling as Round),
         turn => KINDS[turn % kinds],
     };
     run(compare, &mut random)
@@ -63,7 +70,8 @@ pub fn round(compare: &mut Compare, seed: u64, number: u64) -> Result {
 pub fn alone(compare: &mut Compare, seed: u64, number: u64) -> Result {
     let mut random = Random::new(mix(seed).wrapping_add(mix(number)));
     compare.alone(&mut random)?;
-    compare.withdrawals(&mut random, false)
+    compare.withdrawals(&mut random, false)?;
+    compare.turns(&mut random, number % 200 == 7)
 }
 
 /// Lengths near the needed one.
@@ -137,6 +145,7 @@ fn all_calls(compare: &mut Compare, random: &mut Random, t: &Piece<u32>, amount:
         member_calls(compare, t, n, other)?;
     }
     held_calls(compare, random, t, &callers)?;
+    settle_calls(compare, random, t)?;
     compare.audit(t)?;
     compare.alike_itself(t)?;
     let count = if well_formed { t.slice()[1] as usize } else { random.below(6) };
@@ -390,95 +399,4 @@ fn full(compare: &mut Compare, random: &mut Random) -> Result {
     raw.count = random.range(254, 258) as u32;
     compare.audit(&Piece::whole(raw.words()))?;
     read_image(compare, random, &Piece::whole(raw.image()))
-}
-
-fn new(compare: &mut Compare, random: &mut Random) -> Result {
-    for _ in 0..40 {
-        let r =
-            random.pick(&[0, 1, 2, 3, 4, 5, 6, 7, 8, 9, 1, 2, 3, 8, 10, u32::MAX, u32::MAX - 3]);
-        let least = (r.min(12) + 1) as usize;
-        let n = match random.below(12) {
-            0 => 0,
-            1 => 1,
-            2 => least - 1,
-            3 => random.range(254, 258),
-            4 => random.range(0, 12),
-            5 => least,
-            _ => least + random.below(8),
-        };
-        let space = Space::any(random, n + 1);
-        let mut ids = space.rising(random, n);
-        match random.below(6) {
-            0 if n > 1 => {
-                let i = random.range(1, n - 1);
-                ids[i] = ids[i - 1];
-            }
-            1 if n > 1 => {
-                let i = random.range(1, n - 1);
-                ids.swap(i - 1, i);
-            }
-            _ => {}
-        }
-        // More identifiers stand after the lent ones.
-        let mut more = ids.clone();
-        more.extend(ids.last().map_or([7, 8], |l| [l.wrapping_add(1), l.wrapping_add(2)]));
-        let ids = Piece::cut(&more, n);
-        let needed = 3 + n * (r.min(12) as usize + 4);
-        for len in near(random, needed) {
-            let words = make::junk(random, len + 4);
-            compare.make(&Piece::cut(&words, len), r, &ids)?;
-        }
-    }
-    Ok(())
-}
-
-fn take_over(compare: &mut Compare, random: &mut Random) -> Result {
-    for _ in 0..300 {
-        let space = Space::any(random, 3);
-        let [own, h, c] = [(); 3].map(|_| space.pick(random));
-        let lists = [(); 2].map(|_| {
-            let count = random.below(10);
-            let words = make::junk(random, count + 2);
-            Piece::cut(&words, if random.one_in(4) { 0 } else { count })
-        });
-        compare.take_over(own, h, c, &lists[0], &lists[1])?;
-    }
-    Ok(())
-}
-
-/// Two tables, equal but for one thing or two.
-fn alike(compare: &mut Compare, random: &mut Random) -> Result {
-    for _ in 0..40 {
-        let raw = make::well_formed(random, None);
-        let mut other = raw.clone();
-        let n = other.records.len();
-        let i = random.below(n.max(1));
-        match random.below(9) {
-            0 => other.steps = other.steps.wrapping_add(1),
-            1 => {
-                other.r = random.range(1, 8) as u32;
-                for m in &mut other.records {
-                    m.list.resize(other.r as usize, 5);
-                }
-            }
-            2 if n > 0 => other.records[i].list[0] ^= 1 << random.below(32),
-            3 if n > 0 => *other.records[i].list.last_mut().unwrap() ^= 1,
-            4 if n > 0 => other.records[i].predecessor ^= 1,
-            5 if n > 0 => {
-                other.records[i].pending = 1;
-                other.records[i].candidate = random.word();
-            }
-            6 if n > 0 => other.records[n - 1].id = u32::MAX,
-            7 if n > 0 => {
-                other.records.remove(i);
-                other.count -= 1;
-            }
-            _ => {}
-        }
-        let a = make::with_room(random, &raw.words(), 9);
-        let b = make::with_room(random, &other.words(), 9);
-        compare.alike(&a, &b)?;
-        compare.alike(&b, &a)?;
-    }
-    Ok(())
 }

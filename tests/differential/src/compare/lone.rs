@@ -36,6 +36,15 @@ impl Lone {
         self.lent.all == other.lent.all
     }
 
+    /// Where another one's words are not these, at most twenty.
+    pub fn differences(&self, other: &Lone) -> String {
+        let both = self.words().iter().zip(other.words()).enumerate();
+        let differ = both.filter(|(_, (a, b))| a != b).take(20);
+        let lines: Vec<String> =
+            differ.map(|(i, (a, b))| format!("    at {i}: due {a}, given {b}")).collect();
+        lines.join("\n")
+    }
+
     pub fn members(&self) -> Vec<u32> {
         records(self.words()).map(|m| m[0]).collect()
     }

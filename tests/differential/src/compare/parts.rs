@@ -71,12 +71,15 @@ impl Compare {
     pub fn parts(&self) -> String {
         format!(
             "keys parted on {} tables, {} owners found; principals counted on {} tables; \
-             {} runs of the library alone; {} withdrawals from verdict 2",
+             {} runs of the library alone; {} withdrawals from verdict 2; {} rounds held to \
+             their turns, {} settlings to their rounds",
             self.parts.tables,
             self.parts.finds,
             self.principals.tables,
             self.alone.runs,
-            self.withdrawals.made
+            self.withdrawals.made,
+            self.turns.rounds,
+            self.turns.settlings
         )
     }
 

@@ -9,7 +9,7 @@
 //! - The table stays sound, its other records and words stay, and a refusal writes
 //!   nothing.
 
-use super::join::{first_entry, is_member, record, records};
+use super::join::{first_entry, is_member, records};
 use super::lone::Lone;
 use super::shapes::Shapes;
 use super::{place, watched, Compare, Result};
@@ -17,10 +17,11 @@ use crate::make::{self, Space};
 use crate::random::Random;
 
 /// What these runs must meet. Neighbours are two or more.
-const SHAPES: [&str; 20] = [
+const SHAPES: [&str; 21] = [
     "a new table",
     "verdict 2 by a step",
     "verdict 2 by a notice",
+    "verdict 2 by settle",
     "a pending step",
     "256 members",
     "all promised are granted",
@@ -155,7 +156,7 @@ impl Run<'_> {
     /// notices after each pass in any order; up to verdict 2, which need not come.
     fn settle_late(&mut self, random: &mut Random) -> Result<u32> {
         let most = self.table.words()[0] as usize + 2;
-        for _ in 0..random.below(4) {
+        for _ in 0..random.below(6) {
             let mut notices = Vec::new();
             for &n in self.table.members().iter().rev() {
                 for _ in 0..random.range(1, most) {
@@ -176,31 +177,19 @@ impl Run<'_> {
         Ok(1)
     }
 
-    /// Rounds up to the first moment of verdict 2. In a round each member, from the
-    /// lowest, ends a pending step and makes steps until done, each notice at once.
+    /// Settle, with the rounds that are enough: members - principals + r.
     fn settle(&mut self) -> Result<()> {
-        let (r, members) = (self.table.words()[0], self.table.words()[1]);
-        let mut verdict = self.verdict()?;
-        for _ in 0..2 * members * members + r + 1 {
-            for n in self.table.members() {
-                let mut due = record(self.table.words(), n).map_or(1, |m| 1 + m[2]);
-                for _ in 0..r + 2 {
-                    if verdict == 2 {
-                        return Ok(());
-                    }
-                    let (done, given) = self.step(n)?;
-                    verdict = given;
-                    if let Some(h) = done.filter(|_| verdict != 2) {
-                        verdict = self.notice(h, n)?;
-                    }
-                    due -= done.is_some() as u32;
-                    if due == 0 {
-                        break;
-                    }
-                }
-            }
+        let ideal = self.verdict()? == 2;
+        let [members, principals, ..] = self.table.accepted("audit", &[], |c, t| (c.audit)(t))?;
+        let enough = members - principals + self.table.words()[0];
+        let told = self.table.accepted("settle", &[enough], |c, t| (c.settle)(t, enough))?;
+        if (told[0] == 0) != ideal || told[1] != 2 || self.verdict()? != 2 {
+            return self.table.wrong("settle", format!("{enough} rounds are given {told:?}"));
         }
-        self.table.wrong("stabilize", "these members never settle".to_string())
+        if !ideal {
+            self.shapes.meet("verdict 2 by settle");
+        }
+        Ok(())
     }
 
     /// Withdrawals from a table with verdict 2, in this order. Gives how many were tried.

@@ -1,5 +1,6 @@
 //! The calls over the decoded table.
 
+use super::steps::Step;
 use super::*;
 
 pub fn new(table: &mut [u32], r: u32, ids: &[u32]) -> Answer {
@@ -61,39 +62,11 @@ pub fn stabilize(table: &mut [u32], n: u32) -> Answer {
     let Some(place) = t.place(n) else {
         return decline(3);
     };
-    let mut member = t.members[place].clone();
-    let reply;
-    if member.pending {
-        if let Some(candidate) = t.member(member.candidate) {
-            member.adopt(candidate);
-        }
-        member.pending = false;
-        member.candidate = 0;
-        reply = accept(&[2, member.first_entry()]);
-    } else {
-        let h = member.first_entry();
-        match t.member(h) {
-            None => {
-                member.drop_head();
-                reply = accept(&[0]);
-            }
-            Some(head) => {
-                member.adopt(head);
-                let c = head.predecessor;
-                if between(n, c, h) {
-                    member.pending = true;
-                    member.candidate = c;
-                    reply = accept(&[1, c]);
-                } else {
-                    reply = accept(&[2, h]);
-                }
-            }
-        }
-    }
-    t.members[place] = member;
-    if t.steps < u32::MAX {
-        t.steps += 1;
-    }
+    let reply = match t.step(place) {
+        Step::Again => accept(&[0]),
+        Step::Look(c) => accept(&[1, c]),
+        Step::Done(h) => accept(&[2, h]),
+    };
     t.put(table);
     reply
 }
@@ -105,13 +78,9 @@ pub fn rectify(table: &mut [u32], n: u32, q: u32) -> Answer {
     let Some(place) = t.place(n) else {
         return decline(3);
     };
-    let predecessor = t.members[place].predecessor;
-    if !between(predecessor, q, n) && t.is_live(predecessor) {
-        return accept(&[0]);
-    }
-    t.members[place].predecessor = q;
+    let written = t.notice(place, q);
     t.put(table);
-    accept(&[1])
+    accept(&[written as u32])
 }
 
 /// Takes out the record at a place and zeroes the words it frees.

@@ -2,61 +2,7 @@
 //! and those that one word, two exchanged ones or stale lists keep from it.
 
 use super::*;
-use crate::make::Record;
-
-/// Members, and for each an identifier after it and before the next member.
-struct Ring {
-    ids: Vec<u32>,
-    gaps: Vec<u32>,
-}
-
-impl Ring {
-    fn any(random: &mut Random, n: usize) -> Ring {
-        let all = Space::any(random, 2 * n).rising(random, 2 * n);
-        let [mut ids, mut gaps] =
-            [0, 1].map(|from| -> Vec<u32> { all.iter().copied().skip(from).step_by(2).collect() });
-        if random.one_in(2) {
-            std::mem::swap(&mut ids, &mut gaps);
-            gaps.rotate_left(1);
-        }
-        Ring { ids, gaps }
-    }
-
-    fn id(&self, i: usize) -> u32 {
-        self.ids[i % self.ids.len()]
-    }
-
-    /// No member, but next to the one at place i.
-    fn beside(&self, random: &mut Random, i: usize) -> u32 {
-        let n = self.gaps.len();
-        self.gaps[(i + random.below(2) * (n - 1)) % n]
-    }
-
-    /// The ideal table, nothing pending.
-    fn table(&self, random: &mut Random, r: usize) -> Raw {
-        let n = self.ids.len();
-        let record = |i: usize| Record {
-            id: self.id(i),
-            predecessor: self.id(i + n - 1),
-            pending: 0,
-            candidate: 0,
-            list: (1..=r).map(|k| self.id(i + k)).collect(),
-        };
-        let records = (0..n).map(record).collect();
-        Raw { r: r as u32, count: n as u32, steps: random.word(), records }
-    }
-
-    /// Some members are made pending, with candidates between them and the next one.
-    fn wait(&self, random: &mut Random, raw: &mut Raw) {
-        let among = random.range(1, 3);
-        for (record, &gap) in raw.records.iter_mut().zip(&self.gaps) {
-            if random.one_in(among) {
-                record.pending = 1;
-                record.candidate = gap;
-            }
-        }
-    }
-}
+use crate::make::Ring;
 
 /// The audit, and sometimes the findings.
 fn judge(compare: &mut Compare, random: &mut Random, raw: &Raw) -> Result {

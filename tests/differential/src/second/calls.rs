@@ -52,10 +52,16 @@ pub fn stabilize(table: &mut [u32], n: u32) -> Answer {
     if !formed(table) {
         return no(1);
     }
-    let Some(i) = find(table, n) else {
-        return no(3);
-    };
+    match find(table, n) {
+        None => no(3),
+        Some(i) => step_at(table, i),
+    }
+}
+
+/// A step of the member at a place.
+pub(super) fn step_at(table: &mut [u32], i: usize) -> Answer {
     let o = offset(table, i);
+    let n = table[o];
     let (first, last) = (o + 4, o + width(table) - 1);
     let h = table[first];
     let mut head = find(table, h);
@@ -119,17 +125,22 @@ pub fn rectify(table: &mut [u32], n: u32, q: u32) -> Answer {
     if !formed(table) {
         return no(1);
     }
-    let Some(i) = find(table, n) else {
-        return no(3);
-    };
+    match find(table, n) {
+        None => no(3),
+        Some(i) => notice_at(table, i, q),
+    }
+}
+
+/// A notice from q to the member at a place.
+pub(super) fn notice_at(table: &mut [u32], i: usize, q: u32) -> Answer {
     let o = offset(table, i) + 1;
-    let old = table[o];
+    let (old, n) = (table[o], table[o - 1]);
     let dead = find(table, old).is_none() && !planted(Fault::RectifyAlive);
     if dead || between(old, q, n) {
         table[o] = q;
         return yes([(old != q || !planted(Fault::RectifySame)) as u32]);
     }
-    yes([0])
+    yes([planted(Fault::RectifyNew) as u32])
 }
 
 fn remove(table: &mut [u32], i: usize) -> Answer {

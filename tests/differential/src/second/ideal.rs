@@ -45,7 +45,7 @@ fn unseen(t: &[u32], i: usize, k: usize) -> bool {
             || (planted(Fault::IdealDead) && !live()))
 }
 
-fn ideal(t: &[u32]) -> bool {
+pub(super) fn ideal(t: &[u32]) -> bool {
     let n = size(t);
     if n == 0 {
         return true;

@@ -1,0 +1,161 @@
+//! Rounds and settle: one call on both sides, and what a run must meet of them, read off
+//! the words before and after.
+
+use super::join::{is_member, records};
+use super::shapes::Shapes;
+use super::{nothing, Compare, Outcome, Piece, Result};
+use crate::reference::{self, Answer};
+
+/// Each call counts for those that hold of its table, its limit and its answer. What
+/// stands with 14 alone is all that the table lacks.
+const SHAPES: [&str; 31] = [
+    "1 with limit 0",
+    "14 with limit 0",
+    "14 with no members",
+    "14 with 256 members",
+    "14 on a table that is ideal but for its candidates",
+    "14, a list without a live entry alone",
+    "14, r principals alone",
+    "14, a candidate alone",
+    "a round on an ideal table",
+    "a round on an ideal table clears a dead candidate",
+    "a round leaves verdict 1",
+    "a round brings verdict 2",
+    "a round of 256 members",
+    "a round takes the step count to 4294967295",
+    "a round leaves the step count at 4294967295",
+    "settle of an ideal table",
+    "settle of an ideal table with a pending step",
+    "limit 0 with verdict 1",
+    "limit 0 with verdict 2",
+    "the limit reached with verdict 1",
+    "the limit reached with verdict 2",
+    "fewer rounds than the limit",
+    "rounds run with limit 256",
+    "rounds run with limit 65536",
+    "rounds run with limit 4294967295",
+    "members - 1 rounds",
+    "members - 1 rounds of r = 1",
+    "members - 1 rounds of r = 8",
+    "members - principals + r rounds, fewer than members - 1",
+    "256 members",
+    "255 rounds",
+];
+
+/// Of tables with more members than this is not asked what they lack.
+const MANY: usize = 40;
+
+/// The calls so far.
+pub struct Settles {
+    shapes: Shapes<{ SHAPES.len() }>,
+}
+
+/// What a table lacks to be sound: live entries, principals, candidates inside.
+fn lacks(words: &[u32]) -> [bool; 3] {
+    let live = records(words).all(|m| m[4..].iter().any(|&e| is_member(words, e)));
+    let principals = reference::audit(words).values[1];
+    let inside = |m: &[u32]| m[2] == 0 || reference::between(m[0], m[3], m[4]);
+    [!live, principals <= words[0], !records(words).all(inside)]
+}
+
+impl Settles {
+    pub fn new() -> Settles {
+        Settles { shapes: Shapes::new(SHAPES) }
+    }
+
+    pub fn never_met(&self) -> Option<&'static str> {
+        self.shapes.never_met()
+    }
+
+    pub fn told(&self) -> String {
+        self.shapes.told()
+    }
+
+    /// Counts a round, which has no limit, or a settle.
+    fn count(&mut self, table: &[u32], limit: Option<u32>, answer: &Answer, after: &[u32]) {
+        let number = answer.number;
+        let none = limit == Some(0);
+        if number == 1 {
+            if none {
+                self.shapes.meet("1 with limit 0");
+            }
+            return;
+        }
+        let (r, members) = (table[0], table[1]);
+        let full = members == 256;
+        let fourteen = number == 14;
+        let known = fourteen && (1..=MANY as u32).contains(&members);
+        let lacks = if known { lacks(table) } else { [false; 3] };
+        let as_new = known && {
+            let mut new = table.to_vec();
+            let ids: Vec<u32> = records(table).map(|m| m[0]).collect();
+            let made = reference::new(&mut new, r, &ids).number == 0;
+            let same = |(a, b): (&[u32], &[u32])| a[..2] == b[..2] && a[4..] == b[4..];
+            made && records(table).zip(records(&new)).all(same)
+        };
+        let pending = records(table).any(|m| m[2] == 1);
+        let round = number == 0 && limit.is_none();
+        let settle = number == 0 && limit.is_some();
+        let given = limit.unwrap_or(0);
+        let ran = if settle { answer.values[0] } else { 0 };
+        let verdict = answer.values[settle as usize];
+        let ideal =
+            if round { reference::is_sound_and_ideal(table) } else { ran == 0 && verdict == 2 };
+        // Fewer rounds than this need no look at the principals.
+        let enough = match settle && verdict == 2 && ran >= r {
+            true => members - reference::audit(table).values[1] + r,
+            false => 0,
+        };
+        let exact = enough > 0 && ran == enough;
+        let most = exact && ran == members - 1;
+        self.shapes.count([
+            false,
+            fourteen && none,
+            fourteen && members == 0,
+            fourteen && full,
+            as_new && lacks == [false, false, true],
+            lacks == [true, false, false],
+            lacks == [false, true, false],
+            lacks == [false, false, true],
+            round && ideal && !pending,
+            round && ideal && pending,
+            round && !ideal && verdict == 1,
+            round && !ideal && verdict == 2,
+            round && full,
+            round && table[2] < u32::MAX && after[2] == u32::MAX,
+            round && table[2] == u32::MAX && after[2] == u32::MAX,
+            settle && ideal && given > 0,
+            settle && ideal && given > 0 && pending,
+            settle && none && verdict == 1,
+            settle && none && verdict == 2,
+            settle && given > 0 && ran == given && verdict == 1,
+            settle && given > 0 && ran == given && verdict == 2,
+            settle && ran > 0 && ran < given,
+            ran > 0 && given == 256,
+            ran > 0 && given == 65536,
+            ran > 0 && given == u32::MAX,
+            most,
+            most && r == 1,
+            most && r == 8,
+            exact && !most,
+            settle && full && ran > 0,
+            full && ran == 255,
+        ]);
+    }
+}
+
+impl Compare {
+    pub fn round(&mut self, table: &Piece<u32>) -> Result<Outcome<u32, u32>> {
+        let outcome = self.on_table("round", &[], table, &nothing(), |c, t, _| (c.round)(t))?;
+        self.settles.count(table.slice(), None, &outcome.answer, &outcome.first);
+        Ok(outcome)
+    }
+
+    pub fn settle(&mut self, table: &Piece<u32>, limit: u32) -> Result<Outcome<u32, u32>> {
+        let outcome = self.on_table("settle", &[limit as u64], table, &nothing(), |c, t, _| {
+            (c.settle)(t, limit)
+        })?;
+        self.settles.count(table.slice(), Some(limit), &outcome.answer, &outcome.first);
+        Ok(outcome)
+    }
+}

@@ -1,0 +1,228 @@
+//! Sound tables, ideal ones and ones far from it.
+
+use super::{step_count, Raw, Record, Space};
+use crate::random::Random;
+
+/// Members, and for each an identifier after it and before the next member.
+pub struct Ring {
+    pub ids: Vec<u32>,
+    pub gaps: Vec<u32>,
+}
+
+impl Ring {
+    pub fn any(random: &mut Random, n: usize) -> Ring {
+        let all = Space::any(random, 2 * n).rising(random, 2 * n);
+        let [mut ids, mut gaps] =
+            [0, 1].map(|from| -> Vec<u32> { all.iter().copied().skip(from).step_by(2).collect() });
+        if random.one_in(2) {
+            std::mem::swap(&mut ids, &mut gaps);
+            gaps.rotate_left(1);
+        }
+        Ring { ids, gaps }
+    }
+
+    pub fn id(&self, i: usize) -> u32 {
+        self.ids[i % self.ids.len()]
+    }
+
+    /// No member, but next to the one at place i.
+    pub fn beside(&self, random: &mut Random, i: usize) -> u32 {
+        let n = self.gaps.len();
+        self.gaps[(i + random.below(2) * (n - 1)) % n]
+    }
+
+    /// The ideal table, nothing pending.
+    pub fn table(&self, random: &mut Random, r: usize) -> Raw {
+        let n = self.ids.len();
+        let record = |i: usize| Record {
+            id: self.id(i),
+            predecessor: self.id(i + n - 1),
+            pending: 0,
+            candidate: 0,
+            list: (1..=r).map(|k| self.id(i + k)).collect(),
+        };
+        let records = (0..n).map(record).collect();
+        Raw { r: r as u32, count: n as u32, steps: random.word(), records }
+    }
+
+    /// Some members are made pending, with candidates between them and the next one.
+    pub fn wait(&self, random: &mut Random, raw: &mut Raw) {
+        let among = random.range(1, 3);
+        for (record, &gap) in raw.records.iter_mut().zip(&self.gaps) {
+            if random.one_in(among) {
+                record.pending = 1;
+                record.candidate = gap;
+            }
+        }
+    }
+
+    /// An identifier by its slot: a member at the even ones, what lies between it and the
+    /// next one at the odd ones, round the end.
+    fn slot(&self, at: usize) -> u32 {
+        let at = at % (2 * self.ids.len());
+        if at % 2 == 0 {
+            self.ids[at / 2]
+        } else {
+            self.gaps[at / 2]
+        }
+    }
+}
+
+/// A list that goes up from a member and skips no principal: entries are members or
+/// dead, one of them a member. `principal` tells the members that must not be skipped.
+fn some_list(random: &mut Random, r: usize, i: usize, principal: &[bool]) -> Vec<usize> {
+    let n = principal.len();
+    let style = random.below(4);
+    let mut at = 2 * i;
+    let mut list = Vec::with_capacity(r);
+    for k in 0..r {
+        // So many slots up is the next principal.
+        let most = (1..=2 * n).find(|d| (at + d) % 2 == 0 && principal[(at + d) / 2 % n]);
+        let most = most.unwrap_or(1);
+        let dead = k + 1 < r || list.iter().any(|slot| slot % 2 == 0);
+        at += match style {
+            0 => most,
+            1 => 2.min(most),
+            _ => match random.below(3) {
+                0 => most,
+                _ => random.range(1, most),
+            },
+        };
+        // The last entry is a member if no other one is.
+        at += (at % 2 == 1 && !dead) as usize;
+        list.push(at);
+    }
+    list
+}
+
+/// A sound table with these principals, and perhaps more, if they are r + 1 or more:
+/// predecessors are anything, candidates anything between.
+fn wild(random: &mut Random, ring: &Ring, r: usize, principal: &[bool]) -> Raw {
+    let n = ring.ids.len();
+    let among = random.range(1, 4);
+    let mut raw = ring.table(random, r);
+    for (i, record) in raw.records.iter_mut().enumerate() {
+        let slots = some_list(random, r, i, principal);
+        record.list = slots.iter().map(|&slot| ring.slot(slot)).collect();
+        record.predecessor = match random.below(4) {
+            0 => ring.slot(random.below(2 * n)),
+            1 => ring.gaps[(i + n - 1) % n],
+            2 => ring.id(i + n - 1 - random.below(n.min(4))),
+            _ => record.predecessor,
+        };
+        let way = slots[0] - 2 * i;
+        if way > 1 && random.one_in(among) {
+            record.pending = 1;
+            record.candidate = ring.slot(2 * i + random.range(1, way - 1));
+        }
+    }
+    raw
+}
+
+/// A table on which members - 1 rounds are needed, if `first` is 0: from place `first` on
+/// stand r members, then one more, by which all the others have joined, and no step was
+/// made since.
+fn joined_by_one(random: &mut Random, ring: &Ring, r: usize, first: usize) -> Raw {
+    let n = ring.ids.len();
+    let mut raw = ring.table(random, r);
+    let by = first + r;
+    for k in 0..n {
+        let i = (first + k) % n;
+        let record = &mut raw.records[i];
+        // The first r + 1 as they were before the joins.
+        let ahead = |d: usize| ring.id(first + (k.min(r) + d) % (r + 1));
+        record.list = (1..=r).map(ahead).collect();
+        record.predecessor = if k > r { ring.id(by) } else { ahead(r) };
+    }
+    raw
+}
+
+/// A new table of which all but n members were lost: as many neighbours as `most` at a
+/// time, fewer than r, or always that many.
+fn after_losses(random: &mut Random, r: usize, n: usize, most: usize) -> Raw {
+    let all_most = random.one_in(2);
+    let lost: Vec<usize> =
+        (0..n).map(|_| if all_most { most } else { random.below(most + 1) }).collect();
+    let all = n + lost.iter().sum::<usize>();
+    let ids = Space::any(random, 2 * all).rising(random, all);
+    let first = random.below(all);
+    let mut places: Vec<usize> = lost
+        .iter()
+        .scan(first, |at, lost| {
+            let place = *at % all;
+            *at += 1 + lost;
+            Some(place)
+        })
+        .collect();
+    places.sort();
+    let record = |&i: &usize| Record {
+        id: ids[i],
+        predecessor: ids[(i + all - 1) % all],
+        pending: 0,
+        candidate: 0,
+        list: (1..=r).map(|k| ids[(i + k) % all]).collect(),
+    };
+    let records = places.iter().map(record).collect();
+    Raw { r: r as u32, count: n as u32, steps: 0, records }
+}
+
+/// A table on which members - 1 rounds are needed.
+pub fn slowest(random: &mut Random, r: usize, n: usize) -> Raw {
+    let ring = Ring::any(random, n);
+    joined_by_one(random, &ring, r, 0)
+}
+
+/// Some members are made pending, with anything between them and their first entries.
+fn await_some(random: &mut Random, raw: &mut Raw) {
+    let among = random.range(1, 3);
+    for record in &mut raw.records {
+        let ahead = record.list[0].wrapping_sub(record.id).wrapping_sub(1);
+        if ahead > 0 && record.pending == 0 && random.one_in(among) {
+            record.pending = 1;
+            record.candidate = record.id.wrapping_add(1 + random.word() % ahead);
+        }
+    }
+}
+
+/// A sound table of n members, n > r: ideal, ideal but for pending steps or a few words,
+/// or far from it.
+pub fn sound(random: &mut Random, r: usize, n: usize) -> Raw {
+    let ring = Ring::any(random, n);
+    let mut principal = vec![false; n];
+    let mut raw = match random.below(10) {
+        0 | 1 => {
+            let first = if random.one_in(3) { random.below(n) } else { 0 };
+            joined_by_one(random, &ring, r, first)
+        }
+        2 if r > 1 => {
+            let most = if random.one_in(2) { r - 1 } else { random.range(1, r - 1) };
+            after_losses(random, r, n, most)
+        }
+        3 => ring.table(random, r),
+        4 => {
+            let mut raw = ring.table(random, r);
+            for _ in 0..random.range(1, 3) {
+                let i = random.below(n);
+                raw.records[i].predecessor = ring.slot(random.below(2 * n));
+            }
+            raw
+        }
+        style => {
+            // Neighbours, or any; r + 1, or some more.
+            let first = random.below(n);
+            let among = random.range(2, 6);
+            for (k, is) in principal.iter_mut().enumerate() {
+                *is = style > 7 && random.one_in(among) || (k + n - first) % n <= r;
+            }
+            wild(random, &ring, r, &principal)
+        }
+    };
+    if random.one_in(4) {
+        await_some(random, &mut raw);
+    }
+    raw.steps = step_count(random);
+    if random.one_in(6) {
+        raw.steps = u32::MAX - random.below(3 * n) as u32;
+    }
+    raw
+}

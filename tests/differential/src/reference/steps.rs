@@ -1,0 +1,214 @@
+//! The two steps of a member, and rounds of them, over the decoded table.
+
+use super::*;
+
+/// What a stabilize step replies.
+pub enum Step {
+    Again,
+    Look(u32),
+    Done(u32),
+}
+
+impl Table {
+    /// One accepted stabilize step of the member at a place.
+    pub fn step(&mut self, place: usize) -> Step {
+        let mut member = self.members[place].clone();
+        let n = member.identifier;
+        let h = member.first_entry();
+        let reply;
+        if member.pending {
+            if let Some(candidate) = self.member(member.candidate) {
+                member.adopt(candidate);
+            }
+            member.pending = false;
+            member.candidate = 0;
+            reply = Step::Done(member.first_entry());
+        } else if let Some(head) = self.member(h) {
+            member.adopt(head);
+            let c = head.predecessor;
+            if between(n, c, h) {
+                member.pending = true;
+                member.candidate = c;
+                reply = Step::Look(c);
+            } else {
+                reply = Step::Done(h);
+            }
+        } else {
+            member.drop_head();
+            reply = Step::Again;
+        }
+        self.members[place] = member;
+        if self.steps < u32::MAX {
+            self.steps += 1;
+        }
+        reply
+    }
+
+    /// The member at a place takes a notice from q: "if between(predecessor, q, n), or
+    /// the predecessor is no member, it becomes q". Says whether that wrote q.
+    pub fn notice(&mut self, place: usize, q: u32) -> bool {
+        let member = &self.members[place];
+        let predecessor = member.predecessor;
+        let writes = between(predecessor, q, member.identifier) || !self.is_live(predecessor);
+        if writes {
+            self.members[place].predecessor = q;
+        }
+        writes
+    }
+
+    /// "takes stabilize steps until "done" and delivers that notice"; "A notice to a
+    /// non-member is lost." The table is sound, so r + 1 steps are enough.
+    fn steps_until_done(&mut self, place: usize) {
+        for _ in 0..=self.r {
+            if let Step::Done(h) = self.step(place) {
+                let n = self.members[place].identifier;
+                if let Some(told) = self.place(h) {
+                    self.notice(told, n);
+                }
+                return;
+            }
+        }
+        panic!("more than r + 1 steps of a member of a sound table");
+    }
+
+    /// "In a round each member, by rising identifier, first finishes a pending step and
+    /// delivers its notice, then takes stabilize steps until "done" and delivers that
+    /// notice." A step that finishes a pending one is always done.
+    fn run_round(&mut self) {
+        for place in 0..self.members.len() {
+            if self.members[place].pending {
+                self.steps_until_done(place);
+            }
+            self.steps_until_done(place);
+        }
+    }
+
+    fn is_at_two(&self) -> bool {
+        self.is_ideal() && self.is_sound()
+    }
+
+    /// The verdict of a table that is sound.
+    fn one_or_two(&self) -> u32 {
+        assert!(self.is_sound(), "a round leaves a table that is not sound");
+        1 + self.is_at_two() as u32
+    }
+}
+
+/// "One single round may also be called and replies the verdict after it. Refused: 14,
+/// the table is not sound, after 1."
+pub fn round(table: &mut [u32]) -> Answer {
+    let Some(mut t) = Table::decode(table) else {
+        return decline(1);
+    };
+    if !t.is_sound() {
+        return decline(14);
+    }
+    t.run_round();
+    t.put(table);
+    accept(&[t.one_or_two()])
+}
+
+/// "Settle runs rounds until the verdict is 2 or a given limit is reached, and reports
+/// the rounds run and the verdict. The verdict is looked at before each round, so an
+/// ideal table gets none."
+pub fn settle(table: &mut [u32], limit: u32) -> Answer {
+    let Some(mut t) = Table::decode(table) else {
+        return decline(1);
+    };
+    if !t.is_sound() {
+        return decline(14);
+    }
+    let enough = 2 * t.members.len() * t.members.len() + t.r + 1;
+    let mut rounds = 0;
+    while !t.is_at_two() && rounds < limit {
+        assert!((rounds as usize) < enough, "not ideal within 2 * s * s + r + 1 rounds");
+        t.run_round();
+        rounds += 1;
+    }
+    t.put(table);
+    accept(&[rounds, t.one_or_two()])
+}
+
+#[cfg(test)]
+mod settled {
+    use super::*;
+
+    /// Line 7 of document 01's session: the second entry of 10 is still 30.
+    fn session() -> [u32; 33] {
+        let mut table = [0; 33];
+        new(&mut table, 2, &[10, 20, 30, 40]);
+        join(&mut table, 25, 20);
+        stabilize(&mut table, 25);
+        rectify(&mut table, 30, 25);
+        stabilize(&mut table, 20);
+        stabilize(&mut table, 20);
+        table
+    }
+
+    #[test]
+    fn limits() {
+        let start = session();
+        for (limit, told) in [(0, [0, 1]), (1, [1, 2]), (2, [1, 2]), (u32::MAX, [1, 2])] {
+            let mut table = start;
+            assert_eq!(settle(&mut table, limit), accept(&told));
+            assert_eq!(table == start, limit == 0);
+            assert_eq!(settle(&mut table, 0), accept(&[0, told[1]]));
+        }
+        // One step a member, and the step count stops.
+        let mut table = start;
+        assert_eq!(round(&mut table), accept(&[2]));
+        assert_eq!(table[2], start[2] + 5);
+        table[2] = u32::MAX - 1;
+        assert_eq!(round(&mut table), accept(&[2]));
+        assert_eq!(table[2], u32::MAX);
+    }
+
+    #[test]
+    fn pending_steps() {
+        // 10 awaits a candidate that was lost, and stands behind a dead first entry: its
+        // notice is lost, then it clears the entry.
+        let mut table = [0; 27];
+        new(&mut table, 2, &[10, 20, 30, 40]);
+        (table[5], table[6]) = (1, 15);
+        assert_eq!(settle(&mut table, 9), accept(&[0, 2]));
+        assert_eq!(table[5], 1);
+        fail(&mut table, 20);
+        let before = table;
+        assert_eq!(round(&mut table), accept(&[2]));
+        // 10: done, again, look at 20, done; 30: done; 40: done.
+        assert_eq!(table[2], before[2] + 6);
+        assert_eq!(table[3..9], [10, 40, 0, 0, 30, 40]);
+        assert_eq!(table[9..15], [30, 10, 0, 0, 40, 10]);
+        // The highest takes the list of the lowest, which had its turn before.
+        assert_eq!(table[15..21], [40, 30, 0, 0, 10, 30]);
+        assert_eq!(settle(&mut table, 9), accept(&[0, 2]));
+    }
+
+    #[test]
+    fn refusals() {
+        let mut table = session();
+        assert_eq!(round(&mut table[..32]), decline(1));
+        assert_eq!(settle(&mut table[..32], 0), decline(1));
+        assert_eq!(table, session());
+        table[1] = 2;
+        let few = table;
+        assert_eq!(round(&mut table), decline(14));
+        assert_eq!(settle(&mut table, 0), decline(14));
+        assert_eq!(table, few);
+    }
+
+    #[test]
+    fn as_many_as_members_but_one() {
+        // The others have joined by the highest of r + 1 members.
+        for r in 1..=8 {
+            let mut table = vec![0; 3 + 20 * (r as usize + 4)];
+            let ids: Vec<u32> = (0..=r).collect();
+            new(&mut table, r, &ids);
+            for j in r + 1..20 {
+                assert_eq!(join(&mut table, j, r).number, 0);
+            }
+            assert_eq!(audit(&table).values[..2], [20, r + 1]);
+            assert_eq!(settle(&mut table, u32::MAX), accept(&[19, 2]));
+        }
+    }
+}
