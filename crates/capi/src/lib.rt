@@ -1,6 +1,6 @@
 // The library for C: thin exports over the proved calls. include/ring.h declares them.
 ghost use mathlib.Core.Path.{_≡_};
-ghost use Rattle.model.specs.Calls.{joinAnswer, joinWords, stabilizeAnswer, stabilizeWords, rectifyAnswer, rectifyWords, failAnswer, failWords, leaveAnswer, leaveWords, lookupAnswer, auditAnswer, newAnswer, newWords, alikeAnswer, writeAnswer, writeBytes, readAnswer, readWords, findingsAnswer, findingsAfter, heldAnswer, principalAnswer};
+ghost use Rattle.model.specs.Calls.{joinAnswer, joinWords, stabilizeAnswer, stabilizeWords, rectifyAnswer, rectifyWords, failAnswer, failWords, leaveAnswer, leaveWords, lookupAnswer, auditAnswer, newAnswer, newWords, alikeAnswer, writeAnswer, writeBytes, readAnswer, readWords, findingsAnswer, findingsAfter, heldAnswer, principalAnswer, roundAnswer, roundWords, settleAnswer, settleWords};
 ghost use Rattle.model.specs.Image.{fieldAt};
 ghost use Rattle.finding.specs.View.{views};
 ghost use Rattle.answer.specs.Packed.{packed};
@@ -157,4 +157,20 @@ pub extern "C" fn ring_principal(table: &[u32], n: u32) -> Answer
     ensures { λ a. ⌜ a ≡ packed (principalAnswer (now (table .entry)) n) ⌝ }
 {
     tested::numbers(principal_test::principal_test(table, n))
+}
+
+// One round: the turn of each member.
+#[no_mangle]
+pub extern "C" fn ring_round(table: &mut [u32]) -> Answer
+    ensures { λ a. ⌜ (a ≡ packed (roundAnswer (now (table .entry)))) × (now (table .exit) ≡ roundWords (now (table .entry))) ⌝ }
+{
+    judged::numbers(settle::round(table))
+}
+
+// Rounds until the table is ideal, at most so many.
+#[no_mangle]
+pub extern "C" fn ring_settle(table: &mut [u32], limit: u32) -> Answer
+    ensures { λ a. ⌜ (a ≡ packed (settleAnswer (now (table .entry)) limit)) × (now (table .exit) ≡ settleWords (now (table .entry)) limit) ⌝ }
+{
+    settled::numbers(settle::settle(table, limit))
 }

@@ -10,10 +10,10 @@ use borrow.Author.Tests.{ltb-false, leb-false, not-false}
 use Rattle.model.specs.Lists.{if_then_else_}
 use Rattle.model.specs.Identifier.{between}
 use Rattle.model.specs.Table.{recordSize, size, tableOf, membersIn, wellFormed}
-use Rattle.model.specs.Ring.{live, named, successor}
+use Rattle.model.specs.Ring.{live, named, successor, sound}
 use Rattle.model.specs.Answer.{Answer, accepted, declined, Cause, _when_, firstOf, answer, afterwards}
 use Rattle.model.specs.Steps.{without}
-use Rattle.model.specs.Refusals.{full, cutsOff, tooFewPrincipals, joinRefusal, memberRefusal, leaveRefusal}
+use Rattle.model.specs.Refusals.{full, cutsOff, tooFewPrincipals, joinRefusal, memberRefusal, leaveRefusal, settleRefusal}
 use Rattle.laws.specs.Lists.{or-false}
 
 pub declined-answer : (k : ℕ) (a : Answer) → (k ≡ 0 → ⊥) → declined k ≡ answer k a
@@ -108,3 +108,10 @@ unfolding full
 has-room ws h =
     let a = or-false (leb 256 (length (membersIn ws))) (ltb (length ws - size (tableOf ws)) (recordSize (tableOf ws .r))) h in
     (leb-false 256 (length (membersIn ws)) (a .0), ltb-false (length ws - size (tableOf ws)) (recordSize (tableOf ws .r)) (a .1))
+
+pub settle-accepted : (ws : List ℕ) → settleRefusal ws ≡ 0 → (wellFormed ws ≡ true) × (sound (tableOf ws) ≡ true)
+unfolding settleRefusal
+settle-accepted ws h =
+    let a = none-applies 0 (not (wellFormed ws)) _ h in
+    let b = none-applies 13 (not (sound (tableOf ws))) 0 (a .1) in
+    (not-false _ (a .0), not-false _ (b .0))

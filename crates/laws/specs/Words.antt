@@ -98,3 +98,11 @@ overlay-take n ws h = rw (length-take-le n ws h, take-append-drop)
 
 pub written-same : (ws : List ℕ) → headerSize ≤ length ws → size (tableOf ws) ≤ length ws → written (tableOf ws) ws ≡ ws
 written-same ws h le = ap (λ (k : List ℕ). overlay k ws) (words-written ws h le) ∙ overlay-take (size (tableOf ws)) ws le
+
+-- A table written over another of its size leaves nothing of it
+
+overlay-over : (new between old : List ℕ) → length new ≡ length between → overlay new (overlay between old) ≡ overlay new old
+overlay-over new between old e = rw (e, drop-at between (drop (length between) old) (length between) refl)
+
+pub written-over : (T U : Table) (ws : List ℕ) → Lengths (T .r) (T .members) → Lengths (U .r) (U .members) → size T ≡ size U → written T (written U ws) ≡ written T ws
+written-over T U ws h k e = overlay-over (wordsOf T) (wordsOf U) ws (words-length T h ∙ (e ∙ sym (words-length U k)))

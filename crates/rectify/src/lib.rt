@@ -13,7 +13,7 @@ use notice::Notice;
 use refusal::Standing;
 
 // The member at place k rectifies with a notice from q.
-fn rectify_at(t: &mut [u32], k: usize, q: u32) -> Notice
+pub fn rectify_at(t: &mut [u32], k: usize, q: u32) -> Notice
     requires { ⌜ Formed (now t) ⌝ }
     requires { ⌜ k < getD (now t) 1 0 ⌝ }
     ensures { λ a. ⌜ (answerOf a ≡ accepted (rectifyReply (membersIn (now (t .entry))) q (getD (membersIn (now (t .entry))) k nobody))) × (now (t .exit) ≡ written (withMembers (replaced (rectifyIn (membersIn (now (t .entry))) q (getD (membersIn (now (t .entry))) k nobody)) (membersIn (now (t .entry)))) (tableOf (now (t .entry)))) (now (t .entry))) ⌝ }

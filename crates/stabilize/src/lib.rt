@@ -102,7 +102,7 @@ fn count_step(t: &mut [u32])
 }
 
 // One step of the member at place k.
-fn stabilize_at(t: &mut [u32], k: usize) -> Step
+pub fn stabilize_at(t: &mut [u32], k: usize) -> Step
     requires { ⌜ Formed (now t) ⌝ }
     requires { ⌜ k < getD (now t) 1 0 ⌝ }
     ensures { λ a. ⌜ (answerOf a ≡ accepted (stabilizeReply (membersIn (now (t .entry))) (getD (membersIn (now (t .entry))) k nobody))) × (now (t .exit) ≡ written (withSteps (nextStep (tableOf (now (t .entry)) .steps)) (withMembers (replaced (stabilizeOf space (membersIn (now (t .entry))) (getD (membersIn (now (t .entry))) k nobody)) (membersIn (now (t .entry)))) (tableOf (now (t .entry))))) (now (t .entry))) ⌝ }

@@ -1,10 +1,10 @@
-// The verdict on a table, and the pending candidates, which it looks at. For the crates above.
+// Is a table sound, the pending candidates that this looks at, and the verdict. For the crates above.
 ghost use mathlib.Core.Path.{_≡_};
 ghost use Prim.Native.Nat.{ℕ, _*_, _≤_};
 ghost use lib.ListN.{length};
 ghost use Rattle.model.specs.Lists.{every};
 ghost use Rattle.model.specs.Table.{recordSize, memberOf, membersOf, membersIn, tableOf};
-ghost use Rattle.model.specs.Ring.{candidateInside, principals, verdict};
+ghost use Rattle.model.specs.Ring.{candidateInside, principals, sound, verdict};
 ghost use Rattle.table.specs.Formed.{Formed};
 ghost use Rattle.ring.specs.Places.{BestPlaces};
 
@@ -38,6 +38,24 @@ pub fn candidates_inside(s: &[u32], r: usize, n: usize) -> bool
     true
 }
 
+// Is a table with so many principals sound?
+pub fn is_sound(t: &[u32], best: &[u16; 256], count: usize) -> bool
+    requires { ⌜ Formed (now t) ⌝ }
+    requires { ⌜ BestPlaces (now t) (now best) ⌝ }
+    requires { ⌜ count ≡ principals (membersIn (now t)) ⌝ }
+    ensures { λ b. ⌜ b ≡ sound (tableOf (now (t .entry))) ⌝ }
+{
+    let r = t[0] as usize;
+    let n = t[1] as usize;
+    if ring::all_live(t, best) {
+        if r < count {
+            let s = words::records_of(t);
+            return candidates_inside(s, r, n);
+        }
+    }
+    false
+}
+
 // The verdict on a table with so many principals: 0 not sound, 1 sound, 2 sound and ideal.
 pub fn verdict_of(t: &[u32], best: &[u16; 256], count: usize) -> u32
     requires { ⌜ Formed (now t) ⌝ }
@@ -45,18 +63,11 @@ pub fn verdict_of(t: &[u32], best: &[u16; 256], count: usize) -> u32
     requires { ⌜ count ≡ principals (membersIn (now t)) ⌝ }
     ensures { λ v. ⌜ v ≡ verdict (tableOf (now (t .entry))) ⌝ }
 {
-    let r = t[0] as usize;
-    let n = t[1] as usize;
-    if ring::all_live(t, best) {
-        if r < count {
-            let s = words::records_of(t);
-            if candidates_inside(s, r, n) {
-                if ideal::is_ideal(t) {
-                    return 2;
-                }
-                return 1;
-            }
+    if is_sound(t, best, count) {
+        if ideal::is_ideal(t) {
+            return 2;
         }
+        return 1;
     }
     0
 }

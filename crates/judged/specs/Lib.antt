@@ -1,0 +1,2 @@
+-- What contracts cite of this kind of answer.
+pub mod Answers

@@ -1,0 +1,93 @@
+-- Why a table gets no round, and rounds one after the other, each looked at before it. Assumes nothing.
+use Prim.Native.Nat.{ℕ, zero, suc, _+_, _-_, _≤_, _<_}
+use mathlib.Core.Path.{_≡_, refl, sym, ap, _∙_}
+use mathlib.Core.Bool.{true, false}
+use mathlib.Core.List.{List, [], _∷_}
+use native.Mathlib.Omega.{arith}
+use borrow.Author.Tests.{ne-eqb}
+use Rattle.model.specs.Identifier.{space}
+use Rattle.model.specs.Table.{Table, tableOf, wellFormed}
+use Rattle.model.specs.Ring.{sound, verdict}
+use Rattle.model.specs.Settle.{afterRound, afterRounds, roundsRun, afterSettle, settleReply}
+use Rattle.model.specs.Refusals.{settleRefusal}
+use Rattle.model.specs.Calls.{written}
+use Rattle.laws.specs.Accepted.{settle-accepted}
+use Rattle.theory.specs.Runs.{Good}
+use Rattle.theory.specs.Turns.{round-lasts}
+use Rattle.turns.specs.Lasting.{Lasting}
+use Rattle.turns.proofs.Lasting.{good-kept, lasting-none, Next, lasting-next}
+
+-- The causes
+
+module _ (ws : List ℕ) where
+  pub no-table : wellFormed ws ≡ false → 1 ≡ settleRefusal ws
+  unfolding settleRefusal
+  no-table h = rw h
+
+  module _ (h : wellFormed ws ≡ true) where
+    pub not-sound : sound (tableOf ws) ≡ false → 14 ≡ settleRefusal ws
+    unfolding settleRefusal
+    not-sound s = rw (h, s)
+
+    pub no-cause : sound (tableOf ws) ≡ true → 0 ≡ settleRefusal ws
+    unfolding settleRefusal
+    no-cause s = rw (h, s)
+
+  pub granted : settleRefusal ws ≡ 0 → Good ws
+  granted e = let a = settle-accepted ws e in record { well-formed = a .0; is-sound = a .1 }
+
+-- Rounds
+
+pub round-next : {ws us : List ℕ} → Good ws → us ≡ written (afterRound space (tableOf ws)) ws → Next ws (afterRound space (tableOf ws)) us
+round-next {ws} g e = lasting-next g (lasting-none g) (afterRound space (tableOf ws)) (round-lasts space (tableOf ws) (good-kept g)) e
+
+ends-ideal : (k : ℕ) (T : Table) → verdict T ≡ 2 → roundsRun space k T ≡ 0
+ends-ideal zero T v = refl
+ends-ideal (suc k) T v = rw v
+
+goes-on : (k j : ℕ) (T : Table) → k ≡ suc j → (verdict T ≡ 2 → ⊥) → roundsRun space k T ≡ suc (roundsRun space j (afterRound space T))
+goes-on k j T e v = rw (e, ne-eqb (verdict T) 2 v)
+
+-- after so many rounds, with the verdict v: what is left to run from us is the whole of what is run from ws
+pub record Settling (limit : ℕ) (ws : List ℕ) (rounds v : ℕ) (us : List ℕ) : Type 0 where
+  pub follows : Lasting ws us
+  pub few : rounds ≤ limit
+  pub looked : v ≡ verdict (tableOf us)
+  pub counts : rounds + roundsRun space (limit - rounds) (tableOf us) ≡ roundsRun space limit (tableOf ws)
+  pub rest : afterSettle space (limit - rounds) (tableOf us) ≡ afterSettle space limit (tableOf ws)
+
+module _ {ws : List ℕ} (g : Good ws) (limit : ℕ) where
+  pub settling-starts : {v : ℕ} → v ≡ verdict (tableOf ws) → Settling limit ws 0 v ws
+  settling-starts e =
+      let q : limit - 0 ≡ limit = omega arith in
+      let c : roundsRun space (limit - 0) (tableOf ws) ≡ roundsRun space limit (tableOf ws) = ap (λ (k : ℕ). roundsRun space k (tableOf ws)) q in
+      record { follows = lasting-none g; few = omega arith; looked = e; counts = omega (arith, c); rest = ap (λ (k : ℕ). afterSettle space k (tableOf ws)) q }
+
+  module _ {us : List ℕ} {rounds v : ℕ} (u : Settling limit ws rounds v us) where
+    ends : roundsRun space (limit - rounds) (tableOf us) ≡ 0 → (rounds ∷ v ∷ [] ≡ settleReply space limit (tableOf ws)) × (us ≡ written (afterSettle space limit (tableOf ws)) ws)
+    ends z =
+        let c : rounds ≡ roundsRun space limit (tableOf ws) = omega (arith, u .counts, z) in
+        let t : tableOf us ≡ afterSettle space limit (tableOf ws) = ap (λ (k : ℕ). afterRounds space k (tableOf us)) (sym z) ∙ u .rest in
+        (ap (λ (k : ℕ). k ∷ v ∷ []) c ∙ ap (λ (k : ℕ). roundsRun space limit (tableOf ws) ∷ k ∷ []) (u .looked ∙ ap verdict t), u .follows .in-place ∙ ap (λ (T : Table). written T ws) t)
+
+    -- the table is ideal, or so many rounds have run
+    pub settling-ideal : v ≡ 2 → (rounds ∷ v ∷ [] ≡ settleReply space limit (tableOf ws)) × (us ≡ written (afterSettle space limit (tableOf ws)) ws)
+    settling-ideal e = ends (ends-ideal (limit - rounds) (tableOf us) (sym (u .looked) ∙ e))
+
+    pub settling-all : limit ≤ rounds → (rounds ∷ v ∷ [] ≡ settleReply space limit (tableOf ws)) × (us ≡ written (afterSettle space limit (tableOf ws)) ws)
+    settling-all h = let z : limit - rounds ≡ 0 = omega arith in ends (ap (λ (k : ℕ). roundsRun space k (tableOf us)) z)
+
+    -- or one more runs
+    pub settling-on : {vs : List ℕ} {v' : ℕ} → rounds < limit → (v ≡ 2 → ⊥) → v' ≡ verdict (afterRound space (tableOf us)) → vs ≡ written (afterRound space (tableOf us)) us → Settling limit ws (rounds + 1) v' vs
+    settling-on {vs} h n e q =
+        let x = lasting-next g (u .follows) (afterRound space (tableOf us)) (round-lasts space (tableOf us) (u .follows .lasts .kept)) q in
+        let j : limit - rounds ≡ suc (limit - (rounds + 1)) = omega arith in
+        let c = goes-on (limit - rounds) (limit - (rounds + 1)) (tableOf us) j (λ z. n (u .looked ∙ z)) in
+        let same : roundsRun space (limit - (rounds + 1)) (tableOf vs) ≡ roundsRun space (limit - (rounds + 1)) (afterRound space (tableOf us)) = ap (roundsRun space (limit - (rounds + 1))) (x .has) in
+        record {
+          follows = x .follows;
+          few = omega arith;
+          looked = e ∙ ap verdict (sym (x .has));
+          counts = omega (arith, same, c, u .counts);
+          rest = ap (afterSettle space (limit - (rounds + 1))) (x .has) ∙ (ap (λ (k : ℕ). afterRounds space k (tableOf us)) (sym c) ∙ u .rest);
+        }

@@ -1,0 +1,25 @@
+-- Document 02's number and values for each case. No two answers have the same: so a contract that states them fixes the case.
+use Prim.Native.Nat.{ℕ}
+use mathlib.Core.Path.{_≡_, refl, sym, ap, _∙_}
+use mathlib.Core.List.{List, [], _∷_}
+use lib.ListN.{getD}
+use Rattle.model.specs.Answer.{Answer, accepted, declined}
+use Rattle.settled.specs.declared.Settled.{Settled}
+use Rattle.settled.specs.declared.Settled.the-variants.{Ran, Declined}
+
+abbrev pub answerOf : Settled → Answer
+answerOf (Ran rounds v) = accepted (rounds ∷ v ∷ [])
+answerOf (Declined k) = declined k
+
+-- the case that a number and values are
+abbrev caseOf : ℕ → List ℕ → Settled
+caseOf k [] = Declined k
+caseOf k (rounds ∷ vs) = Ran rounds (getD vs 0 0)
+
+read-back : (a : Settled) → caseOf (answerOf a .number) (answerOf a .values) ≡ a
+read-back (Ran rounds v) = refl
+read-back (Declined k) = refl
+
+-- the definition of numbers is one to one
+pub one-to-one : (a b : Settled) → answerOf a ≡ answerOf b → a ≡ b
+one-to-one a b h = sym (read-back a) ∙ (ap (λ (x : Answer). caseOf (x .number) (x .values)) h ∙ read-back b)

@@ -1,0 +1,104 @@
+-- Steps and notices of a member in a slice, in the model's terms. Assumes nothing.
+use Prim.Native.Nat.{ℕ}
+use mathlib.Core.Path.{_≡_, refl, sym, ap, _∙_}
+use mathlib.Core.Logic.{inl, inr}
+use mathlib.Core.Bool.{true, false}
+use mathlib.Core.List.{List, [], _∷_}
+use native.Mathlib.Omega.{arith}
+use lib.Dec.{eqb}
+use lib.ListN.{getD}
+use denote.Enum.Declared.{tagOf}
+use types.Run.{OneOf}
+use Rattle.model.specs.Identifier.{space}
+use Rattle.model.specs.Table.{Member, Table, tableOf, membersIn}
+use Rattle.model.specs.Ring.{live, named, nobody, isPending}
+use Rattle.model.specs.Answer.{Answer, accepted}
+use Rattle.model.specs.Steps.{stabilize, stabilizeReply, nextStep, stabilized, replaced, rectifyIn, rectified, withMembers, withSteps}
+use Rattle.model.specs.Settle.{delivered, nextReply, isDone, lastStep}
+use Rattle.model.specs.Calls.{written}
+use Rattle.laws.specs.Words.{written-same}
+use Rattle.laws.specs.Stabilize.{done-pending}
+use Rattle.theory.specs.Runs.{Good}
+use Rattle.theory.specs.Turns.{acted-step, acted-delivered}
+use Rattle.step.specs.Answers.{answerOf}
+use Rattle.step.specs.declared.Step.{Step}
+use Rattle.step.specs.declared.Step.the-variants.{Again, Look, Done, Declined}
+use Rattle.step.proofs.Step as S
+use Rattle.table.specs.Formed.{Formed}
+use Rattle.table.specs.Search.{Stands}
+use Rattle.table.proofs.Members.{size-words}
+use Rattle.table.proofs.Place.{stands-live, stands-named}
+use Rattle.turns.proofs.Lasting.{good-kept, stands-in, lasting-none, stands-still, written-still, Next, lasting-next}
+
+-- a step that is not "done"
+first-value : (a : Step) → OneOf (0 ∷ 1 ∷ 3 ∷ []) (tagOf S.the-type a) → eqb (getD (answerOf a .values) 0 0) 2 ≡ false
+first-value Again o = refl
+first-value (Look c) o = refl
+first-value (Done h) (inl e) = absurd (omega (arith, e))
+first-value (Done h) (inr (inl e)) = absurd (omega (arith, e))
+first-value (Done h) (inr (inr e)) = absurd (omega (arith, e))
+first-value (Declined k) o = refl
+
+-- a notice of q to h, which is no member, or is one
+module _ (q h : ℕ) (T : Table) where
+  to-none : live (T .members) h ≡ false → T ≡ delivered q h T
+  unfolding delivered
+  to-none l = rw l
+
+  to-member : live (T .members) h ≡ true → rectified h q T ≡ delivered q h T
+  unfolding delivered
+  to-member l = rw l
+
+module _ (ws : List ℕ) (f : Formed ws) where
+  -- the table's own words written over it
+  pub same-words : ws ≡ written (tableOf ws) ws
+  same-words = sym (written-same ws (f .header) (rw (size-words ws) (f .fits)))
+
+  -- a notice of q to h: lost, or taken where h stands
+  pub notice-lost : (q h : ℕ) → live (membersIn ws) h ≡ false → ws ≡ written (delivered q h (tableOf ws)) ws
+  notice-lost q h l = same-words ∙ ap (λ (T : Table). written T ws) (to-none q h (tableOf ws) l)
+
+  pub notice-taken : (q h k : ℕ) (us : List ℕ) → Stands ws k h → us ≡ written (withMembers (replaced (rectifyIn (membersIn ws) q (getD (membersIn ws) k nobody)) (membersIn ws)) (tableOf ws)) ws → us ≡ written (delivered q h (tableOf ws)) ws
+  notice-taken q h k us s e =
+      e ∙ ap (λ (v : Member). written (withMembers (replaced (rectifyIn (membersIn ws) q v) (membersIn ws)) (tableOf ws)) ws) (stands-named f s) ∙ ap (λ (T : Table). written T ws) (to-member q h (tableOf ws) (stands-live f s))
+
+  -- a step of n, which stands at place k
+  module _ (k n : ℕ) (s : Stands ws k n) where
+    pub step-words : (us : List ℕ) → us ≡ written (withSteps (nextStep (tableOf ws .steps)) (withMembers (replaced (stabilize space (membersIn ws) (getD (membersIn ws) k nobody)) (membersIn ws)) (tableOf ws))) ws → us ≡ written (stabilized space n (tableOf ws)) ws
+    step-words us e =
+        e ∙ ap (λ (v : Member). written (withSteps (nextStep (tableOf ws .steps)) (withMembers (replaced (stabilize space (membersIn ws) v) (membersIn ws)) (tableOf ws))) ws) (stands-named f s)
+
+    module _ (a : Step) (e : answerOf a ≡ accepted (stabilizeReply (membersIn ws) (getD (membersIn ws) k nobody))) where
+      says : answerOf a .values ≡ nextReply n (tableOf ws)
+      says = ap (λ (x : Answer). x .values) e ∙ ap (stabilizeReply (membersIn ws)) (stands-named f s)
+
+      pub not-done : OneOf (0 ∷ 1 ∷ 3 ∷ []) (tagOf S.the-type a) → isDone n (tableOf ws) ≡ false
+      not-done o = ap (λ (l : List ℕ). eqb (getD l 0 0) 2) (sym says) ∙ first-value a o
+
+      pub is-done : (h : ℕ) → a ≡ Done h → nextReply n (tableOf ws) ≡ 2 ∷ h ∷ []
+      is-done h q = sym says ∙ ap (λ (x : Step). answerOf x .values) q
+
+-- a reply of "done" and h
+module _ (n h : ℕ) (T : Table) (e : nextReply n T ≡ 2 ∷ h ∷ []) where
+  pub done-true : isDone n T ≡ true
+  done-true = ap (λ (l : List ℕ). eqb (getD l 0 0) 2) e
+
+  done-last : delivered n h (stabilized space n T) ≡ lastStep space n T
+  unfolding lastStep
+  done-last = ap (λ (l : List ℕ). delivered n (getD l 1 0) (stabilized space n T)) (sym e)
+
+-- after a step of n, which stands at place k
+module _ {ws us : List ℕ} {k n : ℕ} (g : Good ws) (s : Stands ws k n) (e : us ≡ written (stabilized space n (tableOf ws)) ws) where
+  pub stepped : Next ws (stabilized space n (tableOf ws)) us
+  stepped = lasting-next g (lasting-none g) (stabilized space n (tableOf ws)) (acted-step space (tableOf ws) (good-kept g) n (stands-in s) .lasts) e
+
+  -- its notice to h is delivered
+  pub noticed : {vs : List ℕ} (h : ℕ) → nextReply n (tableOf ws) ≡ 2 ∷ h ∷ [] → vs ≡ written (delivered n h (tableOf us)) us → vs ≡ written (lastStep space n (tableOf ws)) ws
+  noticed h r q =
+      let o = stepped .follows in
+      let l = acted-delivered space n h (tableOf us) (o .lasts .kept) (stands-in (stands-still g o s)) .lasts in
+      q ∙ (written-still g o (delivered n h (tableOf us)) l ∙ ap (λ (T : Table). written T ws) (ap (delivered n h) (stepped .has) ∙ done-last n h (tableOf ws) r))
+
+-- a pending step is "done"
+pub pending-done : (n : ℕ) (T : Table) → isPending (named (T .members) n) ≡ true → isDone n T ≡ true
+pending-done n T p = ap (λ (l : List ℕ). eqb (getD l 0 0) 2) (sym (done-pending (T .members) (named (T .members) n) p))
