@@ -115,3 +115,7 @@ settle-accepted ws h =
     let a = none-applies 0 (not (wellFormed ws)) _ h in
     let b = none-applies 13 (not (sound (tableOf ws))) 0 (a .1) in
     (not-false _ (a .0), not-false _ (b .0))
+
+pub settle-accepts : (ws : List ℕ) → wellFormed ws ≡ true → sound (tableOf ws) ≡ true → settleRefusal ws ≡ 0
+unfolding settleRefusal
+settle-accepts ws h s = rw (h, s)

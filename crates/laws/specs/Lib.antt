@@ -12,5 +12,6 @@ pub mod Removed
 pub mod Parts
 pub mod Accepted
 pub mod Stabilize
+pub mod Rectify
 pub mod Verdicts
 pub mod Bytes

@@ -12,10 +12,10 @@ use Rattle.model.specs.Settle.{afterRound, afterRounds, roundsRun, afterSettle,
 use Rattle.model.specs.Refusals.{settleRefusal}
 use Rattle.model.specs.Calls.{written}
 use Rattle.laws.specs.Accepted.{settle-accepted}
-use Rattle.theory.specs.Runs.{Good}
+use Rattle.theory.specs.Runs.{Good, good-kept}
 use Rattle.theory.specs.Turns.{round-lasts}
 use Rattle.turns.specs.Lasting.{Lasting}
-use Rattle.turns.proofs.Lasting.{good-kept, lasting-none, Next, lasting-next}
+use Rattle.turns.proofs.Lasting.{lasting-none, Next, lasting-next}
 
 -- The causes
 
@@ -39,7 +39,7 @@ module _ (ws : List ℕ) where
 -- Rounds
 
 pub round-next : {ws us : List ℕ} → Good ws → us ≡ written (afterRound space (tableOf ws)) ws → Next ws (afterRound space (tableOf ws)) us
-round-next {ws} g e = lasting-next g (lasting-none g) (afterRound space (tableOf ws)) (round-lasts space (tableOf ws) (good-kept g)) e
+round-next {ws} g e = lasting-next g (lasting-none g) (afterRound space (tableOf ws)) (round-lasts space (tableOf ws) (good-kept ws g)) e
 
 ends-ideal : (k : ℕ) (T : Table) → verdict T ≡ 2 → roundsRun space k T ≡ 0
 ends-ideal zero T v = refl

@@ -53,6 +53,14 @@ member-there r zero k ws h = absurd (omega arith)
 member-there r (suc n) zero ws h = rw (zero-mul (recordSize r))
 member-there r (suc n) (suc k) ws h = rw (next-offset k (recordSize r), ← drop-drop (k * recordSize r) (recordSize r) ws) (member-there r n k (drop (recordSize r) ws) (omega arith))
 
+-- the words of a record before its list
+first-words : (r i : ℕ) (ws : List ℕ) → i < 4 → getD ws i 0 ≡ getD (recordOf (memberOf r ws)) i 0
+first-words r zero ws h = refl
+first-words r (suc zero) ws h = refl
+first-words r (suc (suc zero)) ws h = refl
+first-words r (suc (suc (suc zero))) ws h = refl
+first-words r (suc (suc (suc (suc i)))) ws h = absurd (omega arith)
+
 -- Records of members
 
 pub records-append : (a b : List Member) → recordsOf (a ++ b) ≡ recordsOf a ++ recordsOf b
@@ -80,6 +88,10 @@ module _ (ws : List ℕ) where
 
     pub whole : memberOf (getD ws 0 0) (drop at ws) ≡ getD (membersIn ws) k nobody
     whole = let r : ℕ = getD ws 0 0 in rw (e, ← drop-drop (k * recordSize r) headerSize ws) (member-there r (getD ws 1 0) k (drop headerSize ws) h)
+
+    -- its words before the list
+    pub word-there : (i : ℕ) → i < 4 → getD ws (at + i) 0 ≡ getD (recordOf (getD (membersIn ws) k nobody)) i 0
+    word-there i l = sym (getD-drop at ws i 0) ∙ first-words (getD ws 0 0) i (drop at ws) l ∙ ap (λ (m : Member). getD (recordOf m) i 0) whole
 
     -- the member there, as its part of the table says it
     pub member-at : (w : ℕ) → w ≡ recordSize (getD ws 0 0) → memberOf (getD ws 0 0) (take (at + w - at) (drop at ws)) ≡ getD (membersIn ws) k nobody

@@ -10,18 +10,19 @@ use borrow.Author.Tests.{ltb-true, ltb-false, eqb-true, eqb-false, lt-ltb, le-lt
 use lib.Dec.{ltb, leb, eqb, leb·suc-suc}
 use lib.ListN.{length, getD, take, drop}
 use Rattle.model.specs.Lists.{if_then_else_, contains, rising, risingFrom}
-use Rattle.model.specs.Table.{Member, headerSize, membersIn, ids}
+use Rattle.model.specs.Table.{Member, headerSize, tableOf, membersIn, ids}
 use Rattle.model.specs.Ring.{live, named, nobody}
 use Rattle.model.specs.Steps.{inserted, replaced, removed}
+use Rattle.model.specs.Calls.{written}
 use Rattle.table.specs.Formed.{Formed}
 use Rattle.table.specs.Rank.{rank}
 use Rattle.table.specs.Search.{Stands, searched}
 use Rattle.table.specs.declared.Search.{Search}
 use Rattle.table.specs.declared.Search.the-variants.{Here, Missing}
-use Rattle.laws.specs.Words.{members-length}
+use Rattle.laws.specs.Words.{members-length, written-same}
 use Rattle.laws.specs.Lists.{and-true as both}
 use Rattle.laws.specs.Order.{less?}
-use Rattle.table.proofs.Members.{ids-count}
+use Rattle.table.proofs.Members.{ids-count, id-of, size-words}
 
 -- Rising identifiers
 
@@ -185,6 +186,11 @@ pub replaced-at : {k : ℕ} {ms : List Member} (v : Member) → At (v .id) ms k 
 replaced-at v (at-first e) = rw (eq-eqb _ _ e)
 replaced-at v (at-later {m = m} h a) = rw (below-eqb _ _ h) (ap (λ (l : List Member). m ∷ l) (replaced-at v a))
 
+-- the member that stands there put in its own place
+pub replaced-same : {x k : ℕ} {ms : List Member} → At x ms k → replaced (getD ms k nobody) ms ≡ ms
+replaced-same (at-first {m = m} e) = rw (eq-eqb (m .id) (m .id) refl)
+replaced-same (at-later {m = m} {ms = ms} {k = k} h a) = rw (below-eqb (m .id) (getD ms k nobody .id) (omega (arith, h, at-id a, id-of ms k))) (ap (λ (l : List Member). m ∷ l) (replaced-same a))
+
 pub removed-at : {x k : ℕ} {ms : List Member} → At x ms k → removed x ms ≡ take k ms ++ drop (suc k) ms
 removed-at (at-first e) = rw (eq-eqb _ _ e)
 removed-at (at-later {m = m} h a) = rw (below-eqb _ _ h) (ap (λ (l : List Member). m ∷ l) (removed-at a))
@@ -204,6 +210,10 @@ at-place (m ∷ ms) (suc k) e h = at-later (rising-above (m .id) (ids ms) k e (l
 
 pub within-count : (ws : List ℕ) {x k : ℕ} → At x (membersIn ws) k → k < getD ws 1 0
 within-count ws a = omega (arith, at-within a, members-length (getD ws 0 0) (getD ws 1 0) (drop headerSize ws))
+
+-- the table's own words written over it
+pub same-words : (ws : List ℕ) → Formed ws → ws ≡ written (tableOf ws) ws
+same-words ws f = sym (written-same ws (f .header) (rw (size-words ws) (f .fits)))
 
 -- at each place a member stands
 pub own-place : (ws : List ℕ) (k : ℕ) → k < getD ws 1 0 → Stands ws k (getD (ids (membersIn ws)) k 0)

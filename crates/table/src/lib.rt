@@ -5,7 +5,7 @@ ghost use mathlib.Core.Bool.{true, false, _&&_};
 ghost use Prim.Native.Nat.{_+_, _*_, _≤_, _<_};
 ghost use lib.Dec.{leb, ltb, eqb};
 ghost use lib.ListN.{length, getD};
-ghost use Rattle.model.specs.Table.{recordSize, membersOf, membersIn, ids, wellFormed};
+ghost use Rattle.model.specs.Table.{recordSize, recordOf, membersOf, membersIn, ids, wellFormed};
 ghost use Rattle.model.specs.Ring.{nobody};
 ghost use Rattle.member.specs.View.{view};
 ghost use Rattle.table.specs.Formed.{Formed};
@@ -140,6 +140,17 @@ pub fn find(t: &[u32], x: u32) -> Search
         return Search::Here(k);
     }
     Search::Missing(k)
+}
+
+// The word i of the record at place k, before its list: identifier, predecessor, pending or candidate.
+pub fn word_at(t: &[u32], k: usize, i: usize) -> u32
+    requires { ⌜ Formed (now t) ⌝ }
+    requires { ⌜ (k < getD (now t) 1 0) × (i < 4) ⌝ }
+    ensures { λ x. ⌜ x ≡ getD (recordOf (getD (membersIn (now (t .entry))) k nobody)) i 0 ⌝ }
+{
+    let r = t[0] as usize;
+    let at = words::offset(r, k);
+    t[at + i]
 }
 
 // The member at place k.

@@ -13,7 +13,7 @@ use Rattle.model.specs.Identifier.{space}
 use Rattle.model.specs.Table.{Member, Table, ids, tableOf, membersIn, wellFormed}
 use Rattle.model.specs.Ring.{live, named, successor, isPending, firstLive, bestSuccessor}
 use Rattle.model.specs.Answer.{Answer, accepted, answer}
-use Rattle.model.specs.Steps.{withPredecessor, joiner, inserted, joined, dropHead, adopt, awaitCandidate, clearPending, offered, isBetter, stabilizeFromSuccessor, stabilizeFromPredecessor, stabilize, stabilizeReply, stabilized, replaced, renews, rectifyIn, rectified}
+use Rattle.model.specs.Steps.{joiner, inserted, joined, dropHead, adopt, awaitCandidate, clearPending, offered, isBetter, stabilizeFromSuccessor, stabilizeFromPredecessor, stabilize, stabilizeReply, stabilized, replaced, rectifyIn, rectified}
 use Rattle.model.specs.Refusals.{joinRefusal, memberRefusal, leaveRefusal}
 use Rattle.model.specs.Calls.{written, joinAnswer, joinWords, stabilizeAnswer, stabilizeWords, rectifyWords, failAnswer, failWords, leaveAnswer, leaveWords}
 use Rattle.model.specs.Run.{Call, Join, Leave, Fail, Stabilize, Rectify, Lookup, Audit, callAnswer, callWords, run, accepts, goes, noneGoes}
@@ -21,6 +21,7 @@ use Rattle.laws.specs.Lists.{and-true, In, found, live-in, in-live}
 use Rattle.laws.specs.Accepted.{answer-number, afterwards-has, join-accepted, member-table, member-accepted}
 use Rattle.laws.specs.Tables.{wellFormed-facts}
 use Rattle.laws.specs.Stabilize.{same-id}
+use Rattle.laws.specs.Rectify.{rectify-same}
 use Rattle.theory.specs.Keep.{Changed, replaced-changed, replaced-named, replaced-others, inserted-changed, inserted-in, inserted-named, inserted-others}
 use Rattle.theory.specs.Left.{joiner-listed, stabilize-listed, rectify-listed, joined-read, stabilized-read, rectified-read}
 
@@ -70,13 +71,6 @@ stabilize-head w ms m h = go (isPending m) (live ms (m .candidate)) refl (live m
     go false b eb true ec true = h
     go false b eb true ec false = h
     go false b eb false ec d = absurd (true≢false (sym h ∙ ec))
-
-rectify-same : (ms : List Member) (q : ℕ) (m : Member) → (successor (rectifyIn ms q m) ≡ successor m) × (rectifyIn ms q m .id ≡ m .id)
-rectify-same ms q m = go (renews (live ms (m .predecessor)) q m)
-  where
-    go : (b : Bool) → (successor (if b then withPredecessor q m else m) ≡ successor m) × ((if b then withPredecessor q m else m) .id ≡ m .id)
-    go true = (refl, refl)
-    go false = (refl, refl)
 
 -- Each call
 
@@ -136,9 +130,9 @@ module _ (ws : List ℕ) where
             let ms = membersIn ws in
             let i = live-in ms m (member-accepted ws m e) in
             let r = rectify-same ms q (named ms m) in
-            let same : rectifyIn ms q (named ms m) .id ≡ m = r .1 ∙ found ms i .1 in
+            let same : rectifyIn ms q (named ms m) .id ≡ m = r .id ∙ found ms i .1 in
             read-headed (rectified m q (tableOf ws)) ws (rectified-read ws m q e) (replaced-headed ms (rectifyIn ms q (named ms m)) n h (subst (λ (x : ℕ). In x (ids ms)) (sym same) i)
-            (λ d. ap (live ms) (r .0) ∙ subst (λ (x : ℕ). live ms (successor (named ms x)) ≡ true) (sym d ∙ same) (h .first-live))
+            (λ d. ap (λ (l : List ℕ). live ms (getD l 0 0)) (r .list) ∙ subst (λ (x : ℕ). live ms (successor (named ms x)) ≡ true) (sym d ∙ same) (h .first-live))
             (low _ (member-table ws m e) (rectify-listed ws m q e)))
 
 call-headed : (c : Call) (ws : List ℕ) (n : ℕ) → Has n ws → not (goes ws c) ≡ true → Has n (callWords ws c)

@@ -10,11 +10,12 @@ use Rattle.model.specs.Lists.{if_then_else_, lastOf}
 use Rattle.model.specs.Identifier.{space, after}
 use Rattle.model.specs.Table.{Member, tableOf, membersIn, wellFormed}
 use Rattle.model.specs.Ring.{live, named, successor, isPending}
-use Rattle.model.specs.Steps.{withPredecessor, joiner, joined, dropHead, adopt, awaitCandidate, clearPending, offered, isBetter, stabilizeFromSuccessor, stabilizeFromPredecessor, stabilize, stabilized, renews, rectifyIn, rectified, without}
+use Rattle.model.specs.Steps.{joiner, joined, dropHead, adopt, awaitCandidate, clearPending, offered, isBetter, stabilizeFromSuccessor, stabilizeFromPredecessor, stabilize, stabilized, rectifyIn, rectified, without}
 use Rattle.model.specs.Refusals.{joinRefusal, memberRefusal, leaveRefusal}
 use Rattle.model.specs.Calls.{written, writtenFreed, stabilizeWords, failWords, leaveWords}
 use Rattle.laws.specs.Lists.{In, found, live-in}
 use Rattle.laws.specs.Accepted.{join-accepted, member-table, member-accepted, leave-accepted}
+use Rattle.laws.specs.Rectify.{rectify-same}
 use Rattle.laws.specs.Words.{Lengths, written-table, writtenFreed-table}
 use Rattle.laws.specs.Tables.{wellFormed-facts, formed-lists}
 use Rattle.laws.specs.Removed.{removed-from}
@@ -52,11 +53,7 @@ module _ (r : ℕ) (ms : List Member) (lists : Lengths r ms) (low : 1 ≤ r) whe
       go false b eb false ec d = dropped-length (after w (lastOf (m .successors))) (m .successors) (omega (arith, lists m i)) ∙ lists m i
 
   rectify-list : (q : ℕ) (m : Member) → In m ms → length (rectifyIn ms q m .successors) ≡ r
-  rectify-list q m i = go (renews (live ms (m .predecessor)) q m)
-    where
-      go : (b : Bool) → length ((if b then withPredecessor q m else m) .successors) ≡ r
-      go true = lists m i
-      go false = lists m i
+  rectify-list q m i = ap length (rectify-same ms q m .list) ∙ lists m i
 
 module _ (ws : List ℕ) where
   -- lists of a well-formed table

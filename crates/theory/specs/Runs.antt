@@ -29,7 +29,7 @@ pub record Good (ws : List ℕ) : Type 0 where
   pub well-formed : wellFormed ws ≡ true
   pub is-sound : sound (tableOf ws) ≡ true
 
-good-kept : (ws : List ℕ) → Good ws → Kept space (tableOf ws)
+pub good-kept : (ws : List ℕ) → Good ws → Kept space (tableOf ws)
 good-kept ws g = record { formed = wellFormed-facts ws (g .well-formed) .table; is-sound = sound-facts (tableOf ws) (g .is-sound) }
 
 fits : (ws : List ℕ) → Good ws → size (tableOf ws) ≤ length ws

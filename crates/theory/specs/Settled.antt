@@ -9,21 +9,21 @@ use lib.ListN.{length, getD, take, set}
 use borrow.Author.Tests.{eqb-true, eqb-false}
 use Rattle.model.specs.Lists.{if_then_else_, count}
 use Rattle.model.specs.Identifier.{space}
-use Rattle.model.specs.Table.{Table, size, tableOf, membersIn, ids, formed}
+use Rattle.model.specs.Table.{Table, tableOf, membersIn, ids, formed}
 use Rattle.model.specs.Ring.{named, principal, ideal, verdict, nextUp}
 use Rattle.model.specs.Steps.{withSteps}
 use Rattle.model.specs.New.{newTable}
 use Rattle.model.specs.Settle.{afterRound, afterRounds, roundsRun, afterSettle}
-use Rattle.model.specs.Refusals.{settleRefusal}
 use Rattle.model.specs.Calls.{written, roundAnswer, roundWords, settleAnswer}
 use Rattle.laws.specs.Lists.{In, found, live-in, length-ids, any-in, count-any, count-length, count-not}
+use Rattle.laws.specs.Accepted.{settle-accepts}
 use Rattle.laws.specs.Words.{written-table, written-same}
 use Rattle.laws.specs.Tables.{formed-facts, wellFormed-facts, sound-facts, facts-sound, formed-lists}
 use Rattle.theory.specs.Bound.{enough, rounds, AtRest, SettlesAfter, oneLess, document02, EnoughIsFew, SettleEnds, StepsEnd}
 use Rattle.theory.specs.Keep.{Kept}
-use Rattle.theory.specs.Runs.{Good, written-good}
+use Rattle.theory.specs.Runs.{Good, good-kept, written-good}
 use Rattle.theory.specs.New.{new-ideal}
-use Rattle.theory.specs.Turns.{Lasts, rounds-last}
+use Rattle.theory.specs.Turns.{rounds-last, same-size}
 use Rattle.theory.specs.Calm.{turn-until}
 use Rattle.theory.specs.Rounds.{Common, calm-round}
 use Rattle.theory.specs.Far.{Fars, fars-round, none-wrong}
@@ -134,27 +134,17 @@ steps-end T f s n l = turn-until space n T (record { formed = formed-facts space
 
 -- Slices
 
-kept-of : (ws : List ℕ) → Good ws → Kept space (tableOf ws)
-kept-of ws s = record { formed = wellFormed-facts ws (s .well-formed) .table; is-sound = sound-facts (tableOf ws) (s .is-sound) }
-
-accepts : (ws : List ℕ) → Good ws → settleRefusal ws ≡ 0
-unfolding settleRefusal
-accepts ws s = rw (s .well-formed, s .is-sound)
-
 -- so many rounds of the table, written over the slice, are a sound table's slice again
-same-size : {w : ℕ} {T U : Table} → Lasts w T U → size U ≡ size T
-same-size {w} {T} {U} a = let q : length (U .members) ≡ length (T .members) = sym (length-ids (U .members)) ∙ ap length (a .same-ids) ∙ length-ids (T .members) in rw (q, a .same-r)
-
 pub rounds-slice : (j : ℕ) (ws : List ℕ) → Good ws → Good (written (afterRounds space j (tableOf ws)) ws) × (tableOf (written (afterRounds space j (tableOf ws)) ws) ≡ afterRounds space j (tableOf ws))
 rounds-slice j ws s =
-    let a = rounds-last space j (tableOf ws) (kept-of ws s) in
+    let a = rounds-last space j (tableOf ws) (good-kept ws s) in
     let g = written-good (afterRounds space j (tableOf ws)) ws (a .kept) (omega (arith, same-size a, wellFormed-facts ws (s .well-formed) .fits)) in
     (g, written-table (afterRounds space j (tableOf ws)) ws (formed-lists space (afterRounds space j (tableOf ws)) (a .kept .formed)))
 
 module _ (ws : List ℕ) (s : Good ws) where
   round-is : roundWords ws ≡ written (afterRound space (tableOf ws)) ws
   unfolding roundWords
-  round-is = rw (accepts ws s)
+  round-is = rw (settle-accepts ws (s .well-formed) (s .is-sound))
 
   pub round-slice : Good (roundWords ws)
   round-slice = rw round-is (rounds-slice 1 ws s .0)
@@ -174,7 +164,7 @@ enough-is ws = omega (arith, count-not (principal (membersIn ws)) (ids (membersI
 -- a slice with that table is at rest
 rest-of : (ws : List ℕ) → Good ws → verdict (tableOf ws) ≡ 2 → verdict (afterRound space (tableOf ws)) ≡ 2 → afterRound space (tableOf ws) ≡ withSteps (afterRound space (tableOf ws) .steps) (tableOf ws) → AtRest ws
 unfolding roundAnswer
-rest-of ws s v n c = record { verdict-2 = v; replies-2 = rw (accepts ws s, n); counts-only = words ∙ ap (set ws 2) (sym third) }
+rest-of ws s v n c = record { verdict-2 = v; replies-2 = rw (settle-accepts ws (s .well-formed) (s .is-sound), n); counts-only = words ∙ ap (set ws 2) (sym third) }
   where
     steps : ℕ
     steps = afterRound space (tableOf ws) .steps
@@ -197,7 +187,7 @@ rest-of ws s v n c = record { verdict-2 = v; replies-2 = rw (accepts ws s, n); c
 pub settles-after-enough : SettlesAfter enough
 settles-after-enough ws wf so j h =
     let s : Good ws = record { well-formed = wf; is-sound = so } in
-    let k = kept-of ws s in
+    let k = good-kept ws s in
     let T = tableOf ws in
     let a = after-rounds j ws s in
     let e = a .1 in
@@ -240,7 +230,7 @@ unfolding settleAnswer
 settle-ends ws wf so limit h =
     let s : Good ws = record { well-formed = wf; is-sound = so } in
     let g = runs-to limit (enough ws) (tableOf ws) (λ j l. ap verdict (sym (after-rounds j ws s .1)) ∙ settles-after-enough ws wf so j l .verdict-2) h in
-    record { rounds-run = roundsRun space limit (tableOf ws); few = g .0; reports = rw (accepts ws s, g .1) }
+    record { rounds-run = roundsRun space limit (tableOf ws); few = g .0; reports = rw (settle-accepts ws (s .well-formed) (s .is-sound), g .1) }
 
 pub settle-ends-one-less : SettleEnds oneLess
 settle-ends-one-less ws wf so limit h = settle-ends ws wf so limit (omega (arith, enough-at-most ws so))

@@ -1,20 +1,23 @@
 -- What the steps and notices of one member n may change of a table, and so a turn of n, and turns of several members: sound stays sound, the
 -- principals stay principals, no other member's list or pending moves, and a live predecessor gives way only to a member between.
-use mathlib.Core.Path.{_≡_, refl, sym, subst, _∙_}
+use mathlib.Core.Path.{_≡_, refl, sym, ap, subst, _∙_}
 use mathlib.Core.Logic.{_⊎_, inl, inr}
 use mathlib.Core.Bool.{Bool, true, false, not, _||_}
 use mathlib.Core.List.{List, [], _∷_}
 use Prim.Native.Nat.{ℕ, zero, suc, _<_}
 use native.Mathlib.Omega.{arith}
+use lib.Dec.{eqb}
+use lib.ListN.{length}
 use Rattle.model.specs.Lists.{if_then_else_, contains}
 use Rattle.model.specs.Identifier.{between}
-use Rattle.model.specs.Table.{Member, Table, ids}
+use Rattle.model.specs.Table.{Member, Table, size, ids}
 use Rattle.model.specs.Ring.{live, named, successor, isPending, principal}
 use Rattle.model.specs.Steps.{withPredecessor, adopt, awaitCandidate, clearPending, dropHead, offered, isBetter, stabilizeFromSuccessor, stabilizeFromPredecessor, stabilize, replaced, stabilized, renews, rectifyIn, rectified}
 use Rattle.model.specs.Settle.{delivered, isDone, lastStep, finished, untilDone, afterTurn, afterTurns, afterRound, afterRounds}
 use Rattle.laws.specs.Order.{equal?, Inside, true-inside}
-use Rattle.laws.specs.Lists.{In, here, there, found, live-in, in-live}
+use Rattle.laws.specs.Lists.{In, here, there, length-ids, found, live-in, in-live}
 use Rattle.laws.specs.Stabilize.{same-id}
+use Rattle.laws.specs.Rectify.{rectify-same}
 use Rattle.theory.specs.Keep.{Kept, changed-principal, replaced-ids, replaced-named, replaced-others, replaced-changed}
 use Rattle.theory.specs.Steps.{stabilize-fresh, stabilized-kept, rectify-fresh, rectified-kept}
 
@@ -47,6 +50,10 @@ lasts-none w T k = record { kept = k; same-r = refl; same-ids = refl; principals
 
 pub lasts-trans : {w : ℕ} {T U X : Table} → Lasts w T U → Lasts w U X → Lasts w T X
 lasts-trans a b = record { kept = b .kept; same-r = b .same-r ∙ a .same-r; same-ids = b .same-ids ∙ a .same-ids; principals-stay = λ q i h. b .principals-stay q (rw (a .same-ids) i) (a .principals-stay q i h) }
+
+-- and its size
+pub same-size : {w : ℕ} {T U : Table} → Lasts w T U → size U ≡ size T
+same-size {w} {T} {U} a = let q : length (U .members) ≡ length (T .members) = sym (length-ids (U .members)) ∙ ap length (a .same-ids) ∙ length-ids (T .members) in rw (q, a .same-r)
 
 acted-none : (w n : ℕ) (T : Table) → Kept w T → Acted w n T T
 acted-none w n T k = record { lasts = lasts-none w T k; others = λ x d. record { list = refl; is-pending = refl }; predecessors = λ x. stays refl }
@@ -84,19 +91,8 @@ same-predecessor w ms m = go (isPending m) (live ms (m .candidate)) (live ms (su
     go false b false e = refl
 
 -- a notice writes nothing else, and by its rule
-rectify-id : (ms : List Member) (q : ℕ) (m : Member) → rectifyIn ms q m .id ≡ m .id
-rectify-id ms q m = go (renews (live ms (m .predecessor)) q m)
-  where
-    go : (b : Bool) → (if b then withPredecessor q m else m) .id ≡ m .id
-    go true = refl
-    go false = refl
-
 rectify-list : (ms : List Member) (q : ℕ) (m : Member) → SameList (rectifyIn ms q m) m
-rectify-list ms q m = go (renews (live ms (m .predecessor)) q m)
-  where
-    go : (b : Bool) → SameList (if b then withPredecessor q m else m) m
-    go true = record { list = refl; is-pending = refl }
-    go false = record { list = refl; is-pending = refl }
+rectify-list ms q m = let s = rectify-same ms q m in record { list = s .list; is-pending = ap (λ (p : ℕ). eqb p 1) (s .pending) }
 
 rectify-predecessor : (ms : List Member) (q x : ℕ) (m : Member) → m .id ≡ x → Predecessor ms q x (m .predecessor) (rectifyIn ms q m .predecessor)
 unfolding renews
@@ -147,7 +143,7 @@ module _ (w : ℕ) (T : Table) (k : Kept w T) (n : ℕ) (i : In n (ids (T .membe
   -- a notice of q to n
 
   noticed-id : (q : ℕ) → rectifyIn (T .members) q (named (T .members) n) .id ≡ n
-  noticed-id q = rectify-id (T .members) q (named (T .members) n) ∙ found (T .members) i .1
+  noticed-id q = rectify-same (T .members) q (named (T .members) n) .id ∙ found (T .members) i .1
 
   pub noticed-named : (q : ℕ) → named (rectified n q T .members) n ≡ rectifyIn (T .members) q (named (T .members) n)
   noticed-named q = placed (rectifyIn (T .members) q (named (T .members) n)) (noticed-id q)

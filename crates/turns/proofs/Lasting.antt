@@ -8,21 +8,17 @@ use lib.ListN.{length, getD}
 use Rattle.model.specs.Identifier.{space}
 use Rattle.model.specs.Table.{Table, size, tableOf, membersIn, ids}
 use Rattle.model.specs.Calls.{written}
-use Rattle.laws.specs.Lists.{In, length-ids}
+use Rattle.laws.specs.Lists.{In}
 use Rattle.laws.specs.Places.{place-in}
 use Rattle.laws.specs.Words.{written-table, written-length, written-same, written-over}
-use Rattle.laws.specs.Tables.{wellFormed-facts, sound-facts, formed-lists}
-use Rattle.theory.specs.Keep.{Kept}
-use Rattle.theory.specs.Runs.{Good, written-good}
-use Rattle.theory.specs.Turns.{Lasts, lasts-none, lasts-trans}
+use Rattle.laws.specs.Tables.{wellFormed-facts, formed-lists}
+use Rattle.theory.specs.Runs.{Good, good-kept, written-good}
+use Rattle.theory.specs.Turns.{Lasts, lasts-none, lasts-trans, same-size}
 use Rattle.table.specs.Formed.{Formed}
 use Rattle.table.specs.Search.{Stands}
 use Rattle.table.proofs.Formed.{formed}
 use Rattle.table.proofs.Members.{ids-count}
 use Rattle.turns.specs.Lasting.{Lasting}
-
-pub good-kept : {ws : List ℕ} → Good ws → Kept space (tableOf ws)
-good-kept {ws} g = record { formed = wellFormed-facts ws (g .well-formed) .table; is-sound = sound-facts (tableOf ws) (g .is-sound) }
 
 pub good-formed : {ws : List ℕ} → Good ws → Formed ws
 good-formed {ws} g = formed ws (g .well-formed)
@@ -31,15 +27,10 @@ good-formed {ws} g = formed ws (g .well-formed)
 pub stands-in : {ws : List ℕ} {k n : ℕ} → Stands ws k n → In n (ids (membersIn ws))
 stands-in {ws} {k} s = subst (λ (x : ℕ). In x (ids (membersIn ws))) (s .has-id) (place-in (ids (membersIn ws)) k (omega (arith, ids-count ws, s .within)))
 
-same-size : {T U : Table} → Lasts space T U → size U ≡ size T
-same-size {T} {U} l =
-    let n : length (U .members) ≡ length (T .members) = sym (length-ids (U .members)) ∙ (ap length (l .same-ids) ∙ length-ids (T .members)) in
-    rw (n, l .same-r)
-
 module _ {ws : List ℕ} (g : Good ws) where
   -- before the first turn
   pub lasting-none : Lasting ws ws
-  lasting-none = let w = wellFormed-facts ws (g .well-formed) in record { in-place = sym (written-same ws (w .header) (w .fits)); as-long = refl; lasts = lasts-none space (tableOf ws) (good-kept g) }
+  lasting-none = let w = wellFormed-facts ws (g .well-formed) in record { in-place = sym (written-same ws (w .header) (w .fits)); as-long = refl; lasts = lasts-none space (tableOf ws) (good-kept ws g) }
 
   -- a table that lasts, put in the place of that of ws
   module _ (T : Table) (l : Lasts space (tableOf ws) T) where

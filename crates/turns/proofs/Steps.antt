@@ -16,9 +16,8 @@ use Rattle.model.specs.Answer.{Answer, accepted}
 use Rattle.model.specs.Steps.{stabilize, stabilizeReply, nextStep, stabilized, replaced, rectifyIn, rectified, withMembers, withSteps}
 use Rattle.model.specs.Settle.{delivered, nextReply, isDone, lastStep}
 use Rattle.model.specs.Calls.{written}
-use Rattle.laws.specs.Words.{written-same}
 use Rattle.laws.specs.Stabilize.{done-pending}
-use Rattle.theory.specs.Runs.{Good}
+use Rattle.theory.specs.Runs.{Good, good-kept}
 use Rattle.theory.specs.Turns.{acted-step, acted-delivered}
 use Rattle.step.specs.Answers.{answerOf}
 use Rattle.step.specs.declared.Step.{Step}
@@ -26,9 +25,8 @@ use Rattle.step.specs.declared.Step.the-variants.{Again, Look, Done, Declined}
 use Rattle.step.proofs.Step as S
 use Rattle.table.specs.Formed.{Formed}
 use Rattle.table.specs.Search.{Stands}
-use Rattle.table.proofs.Members.{size-words}
-use Rattle.table.proofs.Place.{stands-live, stands-named}
-use Rattle.turns.proofs.Lasting.{good-kept, stands-in, lasting-none, stands-still, written-still, Next, lasting-next}
+use Rattle.table.proofs.Place.{same-words, stands-live, stands-named}
+use Rattle.turns.proofs.Lasting.{stands-in, lasting-none, stands-still, written-still, Next, lasting-next}
 
 -- a step that is not "done"
 first-value : (a : Step) → OneOf (0 ∷ 1 ∷ 3 ∷ []) (tagOf S.the-type a) → eqb (getD (answerOf a .values) 0 0) 2 ≡ false
@@ -50,13 +48,9 @@ module _ (q h : ℕ) (T : Table) where
   to-member l = rw l
 
 module _ (ws : List ℕ) (f : Formed ws) where
-  -- the table's own words written over it
-  pub same-words : ws ≡ written (tableOf ws) ws
-  same-words = sym (written-same ws (f .header) (rw (size-words ws) (f .fits)))
-
   -- a notice of q to h: lost, or taken where h stands
   pub notice-lost : (q h : ℕ) → live (membersIn ws) h ≡ false → ws ≡ written (delivered q h (tableOf ws)) ws
-  notice-lost q h l = same-words ∙ ap (λ (T : Table). written T ws) (to-none q h (tableOf ws) l)
+  notice-lost q h l = same-words ws f ∙ ap (λ (T : Table). written T ws) (to-none q h (tableOf ws) l)
 
   pub notice-taken : (q h k : ℕ) (us : List ℕ) → Stands ws k h → us ≡ written (withMembers (replaced (rectifyIn (membersIn ws) q (getD (membersIn ws) k nobody)) (membersIn ws)) (tableOf ws)) ws → us ≡ written (delivered q h (tableOf ws)) ws
   notice-taken q h k us s e =
@@ -90,7 +84,7 @@ module _ (n h : ℕ) (T : Table) (e : nextReply n T ≡ 2 ∷ h ∷ []) where
 -- after a step of n, which stands at place k
 module _ {ws us : List ℕ} {k n : ℕ} (g : Good ws) (s : Stands ws k n) (e : us ≡ written (stabilized space n (tableOf ws)) ws) where
   pub stepped : Next ws (stabilized space n (tableOf ws)) us
-  stepped = lasting-next g (lasting-none g) (stabilized space n (tableOf ws)) (acted-step space (tableOf ws) (good-kept g) n (stands-in s) .lasts) e
+  stepped = lasting-next g (lasting-none g) (stabilized space n (tableOf ws)) (acted-step space (tableOf ws) (good-kept ws g) n (stands-in s) .lasts) e
 
   -- its notice to h is delivered
   pub noticed : {vs : List ℕ} (h : ℕ) → nextReply n (tableOf ws) ≡ 2 ∷ h ∷ [] → vs ≡ written (delivered n h (tableOf us)) us → vs ≡ written (lastStep space n (tableOf ws)) ws

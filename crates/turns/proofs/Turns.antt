@@ -14,14 +14,14 @@ use Rattle.model.specs.Ring.{named, isPending}
 use Rattle.model.specs.Steps.{stabilized}
 use Rattle.model.specs.Settle.{isDone, lastStep, finished, untilDone, afterTurn, afterTurns, afterRound}
 use Rattle.model.specs.Calls.{written}
-use Rattle.theory.specs.Runs.{Good}
+use Rattle.theory.specs.Runs.{Good, good-kept}
 use Rattle.theory.specs.Turns.{acted-step, acted-finished, acted-until, acted-turn}
 use Rattle.table.specs.Search.{Stands}
 use Rattle.table.proofs.Members.{ids-count}
-use Rattle.table.proofs.Place.{own-place}
+use Rattle.table.proofs.Place.{same-words, own-place}
 use Rattle.turns.specs.Lasting.{Lasting}
-use Rattle.turns.proofs.Lasting.{good-kept, good-formed, stands-in, lasting-none, same-count, stands-still, written-still, Next, lasting-next}
-use Rattle.turns.proofs.Steps.{same-words, pending-done}
+use Rattle.turns.proofs.Lasting.{good-formed, stands-in, lasting-none, same-count, stands-still, written-still, Next, lasting-next}
+use Rattle.turns.proofs.Steps.{pending-done}
 
 -- a step of n, with its notice if it is "done"
 abbrev pub stepOf : ℕ → Table → Table
@@ -89,7 +89,7 @@ module _ {ws us : List ℕ} {k n f left : ℕ} (g : Good ws) (s : Stands ws k n)
 
 module _ {ws us : List ℕ} {k n : ℕ} (g : Good ws) (s : Stands ws k n) (e : us ≡ written (finished space n (tableOf ws)) ws) where
   pub finished-next : Next ws (finished space n (tableOf ws)) us
-  finished-next = lasting-next g (lasting-none g) (finished space n (tableOf ws)) (acted-finished space n (tableOf ws) (good-kept g) (stands-in s) .lasts) e
+  finished-next = lasting-next g (lasting-none g) (finished space n (tableOf ws)) (acted-finished space n (tableOf ws) (good-kept ws g) (stands-in s) .lasts) e
 
   pub turned : {vs : List ℕ} → vs ≡ written (untilDone space (suc (tableOf us .r)) n (tableOf us)) us → vs ≡ written (afterTurn space n (tableOf ws)) ws
   unfolding afterTurn

@@ -45,9 +45,7 @@ fn is_pending(t: &[u32], k: usize) -> bool
     requires { ⌜ k < getD (now t) 1 0 ⌝ }
     ensures { λ b. ⌜ b ≡ isPending (getD (membersIn (now (t .entry))) k nobody) ⌝ }
 {
-    let r = t[0] as usize;
-    let at = words::offset(r, k);
-    t[at + 2] == 1
+    table::word_at(t, k, 2) == 1
 }
 
 // A pending step of the member n, which stands at place k, is finished, and its notice delivered.
