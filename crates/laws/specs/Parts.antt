@@ -5,7 +5,7 @@ use mathlib.Core.List.{List, [], _∷_, _++_, append-nil}
 use native.Mathlib.Omega.{arith}
 use native.Mathlib.Nat.{suc-mul}
 use lib.ListN.{length, getD, take, drop, length-drop, drop-of-length-le}
-use lib.Seq.{take-all, take-nil, take-take, getD-take, getD-drop}
+use lib.Seq.{take-all, take-nil, take-suc, take-take, getD-take, getD-drop}
 use Rattle.model.specs.Table.{recordSize, memberOf, membersOf}
 use Rattle.model.specs.Ring.{successor}
 
@@ -57,3 +57,10 @@ successor-word r ws h = getD-take r (drop 4 ws) 0 0 h ∙ getD-drop 4 ws 0 0
 -- the part of a record's words says the same member
 pub member-part : (r w : ℕ) (ws : List ℕ) → w ≡ recordSize r → memberOf r (take w ws) ≡ memberOf r ws
 member-part r w ws e = rw (e, getD-take (recordSize r) ws 0 0 (omega arith), getD-take (recordSize r) ws 1 0 (omega arith), getD-take (recordSize r) ws 2 0 (omega arith), getD-take (recordSize r) ws 3 0 (omega arith), part-of-part 4 r (recordSize r) ws (omega arith))
+
+-- the first eight elements of a list
+abbrev pub eight : List ℕ → List ℕ
+eight ys = getD ys 0 0 ∷ getD ys 1 0 ∷ getD ys 2 0 ∷ getD ys 3 0 ∷ getD ys 4 0 ∷ getD ys 5 0 ∷ getD ys 6 0 ∷ getD ys 7 0 ∷ []
+
+pub take-eight : (ys : List ℕ) → 8 ≤ length ys → take 8 ys ≡ eight ys
+take-eight ys h = rw (take-suc ys 7 0 (omega arith), take-suc ys 6 0 (omega arith), take-suc ys 5 0 (omega arith), take-suc ys 4 0 (omega arith), take-suc ys 3 0 (omega arith), take-suc ys 2 0 (omega arith), take-suc ys 1 0 (omega arith), take-suc ys 0 0 (omega arith))

@@ -9,7 +9,6 @@ use lib.Seq.{drop-drop, getD-drop}
 use Rattle.model.specs.Table.{Member, headerSize, recordSize, size, tableOf, memberOf, recordOf, membersOf, membersIn, recordsOf, ids}
 use Rattle.model.specs.Ring.{nobody}
 use Rattle.laws.specs.Lists.{length-ids}
-use Rattle.laws.specs.Parts.{member-part}
 use Rattle.laws.specs.Words.{members-length}
 use Rattle.table.specs.Formed.{Formed}
 
@@ -92,10 +91,6 @@ module _ (ws : List ℕ) where
     -- its words before the list
     pub word-there : (i : ℕ) → i < 4 → getD ws (at + i) 0 ≡ getD (recordOf (getD (membersIn ws) k nobody)) i 0
     word-there i l = sym (getD-drop at ws i 0) ∙ first-words (getD ws 0 0) i (drop at ws) l ∙ ap (λ (m : Member). getD (recordOf m) i 0) whole
-
-    -- the member there, as its part of the table says it
-    pub member-at : (w : ℕ) → w ≡ recordSize (getD ws 0 0) → memberOf (getD ws 0 0) (take (at + w - at) (drop at ws)) ≡ getD (membersIn ws) k nobody
-    member-at w q = member-part (getD ws 0 0) (at + w - at) (drop at ws) (omega arith) ∙ whole
 
     -- its list, as the part of the table after its four other words
     pub list-at : take (at + 4 + getD ws 0 0 - (at + 4)) (drop (at + 4) ws) ≡ getD (membersIn ws) k nobody .successors

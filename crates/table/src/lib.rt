@@ -161,6 +161,5 @@ pub fn member_at(t: &[u32], k: usize) -> Member
 {
     let r = t[0] as usize;
     let at = words::offset(r, k);
-    let end = at + words::width(r);
-    words::read_member(&t[at..end], r)
+    words::read_member(&t[at..], r)
 }

@@ -1,13 +1,14 @@
 -- One record's words: how many records take, and what the loops that read and write one reach. Assumes nothing.
 use Prim.Native.Nat.{ℕ, _+_, _*_, _≤_, _<_}
-use mathlib.Core.Path.{_≡_}
+use mathlib.Core.Path.{_≡_, sym, ap, _∙_}
 use mathlib.Core.List.{List, [], _∷_, _++_}
 use native.Mathlib.Nat.{mul-le-mul-right, le-trans, add-comm}
 use native.Mathlib.Numerals.{add-one, add-four}
 use native.Mathlib.Omega.{arith}
 use lib.ListN.{length, getD, take, drop, set}
-use lib.Seq.{take-suc, take-suc-set, paste}
+use lib.Seq.{take-suc, take-suc-set, take-take, paste}
 use Rattle.model.specs.Table.{recordSize}
+use Rattle.laws.specs.Parts.{take-eight}
 
 -- 256 records with lists of 8 are the most
 pub most-words : (n r : ℕ) → n ≤ 256 → r ≤ 8 → n * recordSize r ≤ 256 * recordSize 8
@@ -16,6 +17,14 @@ most-words n r hn hr = le-trans (mul-le-mul-right (recordSize r) hn) (omega arit
 -- `read_member`: one entry more is copied
 pub copied-more : (i : ℕ) (l s : List ℕ) (v : ℕ) → i < length l → i < length s → take i l ≡ take i s → v ≡ getD s i 0 → take (i + 1) (set l i v) ≡ take (i + 1) s
 copied-more i l s v hl hs e q = rw (add-one, take-suc-set l i v hl, take-suc s i 0 hs, e, q)
+
+-- `read_member`: eight entries at once, of which the first r count
+pub entries-at-once : (r : ℕ) (ws : List ℕ) → r ≤ 8 → 12 ≤ length ws → take r (getD ws 4 0 ∷ getD ws 5 0 ∷ getD ws 6 0 ∷ getD ws 7 0 ∷ getD ws 8 0 ∷ getD ws 9 0 ∷ getD ws 10 0 ∷ getD ws 11 0 ∷ []) ≡ take r (drop 4 ws)
+entries-at-once r [] h k = absurd (omega arith)
+entries-at-once r (a ∷ []) h k = absurd (omega arith)
+entries-at-once r (a ∷ b ∷ []) h k = absurd (omega arith)
+entries-at-once r (a ∷ b ∷ c ∷ []) h k = absurd (omega arith)
+entries-at-once r (a ∷ b ∷ c ∷ d ∷ l) h k = ap (take r) (sym (take-eight l (omega arith))) ∙ take-take r 8 l h
 
 -- `write_member`: four words stored, and then r entries copied
 pub entries-written : (a b c d : ℕ) (l s : List ℕ) (r : ℕ) → 4 ≤ length l → paste (set (set (set (set l 0 a) 1 b) 2 c) 3 d) 4 s r ≡ (a ∷ b ∷ c ∷ d ∷ take r s) ++ drop (4 + r) l

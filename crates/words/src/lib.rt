@@ -40,11 +40,20 @@ pub fn offset(r: usize, k: usize) -> usize
     HEADER + k * width(r)
 }
 
-// One member's record, read from its part of the table.
+// One member's record, read from the front of a part. Where eight entries stand there all are read at once: those after the first r never matter.
 pub fn read_member(part: &[u32], r: usize) -> Member
-    requires { ⌜ (r ≤ 8) × (length (now part) ≡ recordSize r) ⌝ }
+    requires { ⌜ (r ≤ 8) × (recordSize r ≤ length (now part)) ⌝ }
     ensures { λ m. ⌜ view r m ≡ memberOf r (now (part .entry)) ⌝ }
 {
+    if LIST + 8 <= part.len() {
+        return Member {
+            id: part[0],
+            predecessor: part[1],
+            pending: part[2],
+            candidate: part[3],
+            successors: [part[4], part[5], part[6], part[7], part[8], part[9], part[10], part[11]],
+        };
+    }
     let mut l = [0u32; 8];
     let mut i = 0;
     while i < r {

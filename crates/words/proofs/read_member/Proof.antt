@@ -1,4 +1,4 @@
--- `read_member` meets its contract. The loop's invariant: the first i entries are copied. Assumes nothing.
+-- `read_member` meets its contract: eight entries at once, or one by one. The loop's invariant: the first i entries are copied. Assumes nothing.
 use Prim.Native.Nat.{ℕ, _-_, _≤_}
 use mathlib.Core.Path.{_≡_, sym, ap}
 use mathlib.Core.List.{List}
@@ -7,7 +7,7 @@ use lib.ListN.{length, take, drop, length-set, length-drop}
 use lib.Seq.{getD-drop}
 use Rattle.model.specs.Table.{memberOf}
 use Rattle.model.specs.Steps.{withSuccessors}
-use Rattle.words.proofs.Records.{copied-more}
+use Rattle.words.proofs.Records.{copied-more, entries-at-once}
 use borrow.Author.Needs.{needs}
 use Rattle.words.proofs.read_member.Statement.{statement}
 use Rattle.words.proofs.read_member.Tie as tie
@@ -18,19 +18,38 @@ Inv-loop part r l₀ i₀ l i = (i ≤ r) × (length l ≡ 8) × (take i l ≡ t
 abbrev μ-loop : tie.MeasureT-loop
 μ-loop part r l₀ i₀ l i = r - i
 
-loop-again : tie.Need-loop-again Inv-loop μ-loop
-loop-again c =
-    let k = c .before .before .loop in
-    let a = c .before .before .before .args .part .now in
-    (omega arith, simp length-set (k .inv .1), copied-more (k .i) (k .l) (drop 4 a) _ (omega arith) (simp length-drop (omega arith)) (k .inv .2) (sym (getD-drop 4 a (k .i) 0)))
+-- so many words that eight entries stand there
+abbrev start : tie.After-shared-slice-known12 Inv-loop μ-loop → tie.Then1 Inv-loop μ-loop
+start c = c .before .before .before .before .before .before .before .before .before .before .before .before
 
 returns : tie.Need-returns Inv-loop μ-loop
 returns c =
+    let t = start c in
+    let a = t .before .args in
+    ap (λ (x : List ℕ). withSuccessors x (memberOf (a .r) (a .part .now))) (entries-at-once (a .r) (a .part .now) (t .before .pre .0) (omega (arith, t .if1 .taken)))
+
+loop-again : tie.Need-loop-again Inv-loop μ-loop
+loop-again c =
+    let k = c .before .before .loop in
+    let a = c .before .before .before .before .args .part .now in
+    (omega arith, simp length-set (k .inv .1), copied-more (k .i) (k .l) (drop 4 a) _ (omega arith) (simp length-drop (omega arith)) (k .inv .2) (sym (getD-drop 4 a (k .i) 0)))
+
+returns-2 : tie.Need-returns-2 Inv-loop μ-loop
+returns-2 c =
     let k = c .before .before .before .before .before in
-    let a = k .before .args in
+    let a = k .before .before .args in
     let z : k .loop .i ≡ a .r = omega arith in
     ap (λ (x : List ℕ). withSuccessors x (memberOf (a .r) (a .part .now))) (rw z at (k .loop .inv .2))
 
 pub read-member-spec : {M : Type 1} → statement M
 read-member-spec =
-    tie.close (tie.spec Inv-loop μ-loop (λ c. search needs) (λ c. search needs) (λ c. search needs) (λ c. search needs) (λ c. search needs) (λ c. search needs) (λ c. search needs) (λ c. search needs) loop-again (λ c. search needs) (λ c. search needs) (λ c. search needs) (λ c. search needs) returns)
+    tie.close
+    (tie.spec
+    Inv-loop
+    μ-loop
+    (λ c. search needs) (λ c. search needs) (λ c. search needs) (λ c. search needs) (λ c. search needs) (λ c. search needs) (λ c. search needs) (λ c. search needs) (λ c. search needs) (λ c. search needs) (λ c. search needs) (λ c. search needs) (λ c. search needs)
+    returns
+    (λ c. search needs) (λ c. search needs) (λ c. search needs) (λ c. search needs) (λ c. search needs) (λ c. search needs) (λ c. search needs) (λ c. search needs)
+    loop-again
+    (λ c. search needs) (λ c. search needs) (λ c. search needs) (λ c. search needs)
+    returns-2)
