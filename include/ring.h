@@ -43,8 +43,10 @@
 
       ring_new          128
       ring_join         192
-      ring_stabilize    192
+      ring_stabilize    320
       ring_rectify      192
+      ring_round       1792
+      ring_settle      1856
       ring_fail         128
       ring_leave      14080
       ring_lookup       192

@@ -51,7 +51,16 @@ pub fn read_member(part: &[u32], r: usize) -> Member
             predecessor: part[1],
             pending: part[2],
             candidate: part[3],
-            successors: [part[4], part[5], part[6], part[7], part[8], part[9], part[10], part[11]],
+            successors: [
+                part[4],
+                part[5],
+                part[6],
+                part[7],
+                part[8],
+                part[9],
+                part[10],
+                part[11],
+            ],
         };
     }
     let mut l = [0u32; 8];
