@@ -80,7 +80,7 @@ fn turn_at(t: &mut [u32], k: usize)
     requires { ⌜ k < getD (now t) 1 0 ⌝ }
     ensures { λ _. ⌜ now (t .exit) ≡ written (afterTurn space (getD (ids (membersIn (now (t .entry)))) k 0) (tableOf (now (t .entry)))) (now (t .entry)) ⌝ }
 {
-    let n = ring::id_at(t, k);
+    let n = table::word_at(t, k, 0);
     finish_pending(t, k, n);
     until_done(t, k, n);
 }

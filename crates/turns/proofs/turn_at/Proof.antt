@@ -1,25 +1,31 @@
 -- `turn_at` meets its contract. Assumes nothing.
-use mathlib.Core.Path.{sym, ap, _∙_}
+use mathlib.Core.Path.{_≡_, sym, ap, _∙_}
+use native.Mathlib.Omega.{arith}
+use lib.ListN.{getD}
 use borrow.Author.Needs.{needs}
 use Rattle.model.specs.Identifier.{space}
-use Rattle.model.specs.Table.{tableOf}
+use Rattle.model.specs.Table.{tableOf, membersIn, ids}
 use Rattle.model.specs.Settle.{afterTurn}
 use Rattle.model.specs.Calls.{written}
 use Rattle.table.specs.Search.{Stands}
+use Rattle.table.proofs.Members.{id-of}
 use Rattle.turns.proofs.Lasting.{good-formed, good-still, stands-still}
 use Rattle.turns.proofs.Turns.{finished-next, turned}
 use Rattle.turns.proofs.turn_at.Statement.{statement}
 use Rattle.turns.proofs.turn_at.Tie as tie
 
-abbrev start : tie.After-id-at → tie.Start
+abbrev start : tie.After-word-at → tie.Start
 start c = c .before .before .before
 
 -- the member at the place
-stands : (c : tie.After-id-at) → Stands (start c .args .t .now) (start c .args .k) (c .id-at .result)
-stands c = record { within = start c .pre .1; has-id = sym (c .id-at .ensures) }
+is-n : (c : tie.After-word-at) → c .word-at .result ≡ getD (ids (membersIn (start c .args .t .now))) (start c .args .k) 0
+is-n c = c .word-at .ensures ∙ sym (id-of (membersIn (start c .args .t .now)) (start c .args .k))
 
-id-at-requires : tie.Need-id-at-requires
-id-at-requires c κs = let s = c .before .before in (good-formed (s .pre .0), s .pre .1)
+stands : (c : tie.After-word-at) → Stands (start c .args .t .now) (start c .args .k) (c .word-at .result)
+stands c = record { within = start c .pre .1; has-id = sym (is-n c) }
+
+word-at-requires : tie.Need-word-at-requires
+word-at-requires c κs = let s = c .before .before in (good-formed (s .pre .0), (s .pre .1, omega arith))
 
 finish-pending-requires : tie.Need-finish-pending-requires
 finish-pending-requires c κs = (start (c .before) .pre .0, stands (c .before))
@@ -38,7 +44,7 @@ returns c =
     let p = u .before .before .before .before in
     let n = p .before .before in
     let s = start n in
-    turned (s .pre .0) (stands n) (p .finish-pending .ensures) (u .until-done .ensures) ∙ ap (λ x. written (afterTurn space x (tableOf (s .args .t .now))) (s .args .t .now)) (n .id-at .ensures)
+    turned (s .pre .0) (stands n) (p .finish-pending .ensures) (u .until-done .ensures) ∙ ap (λ x. written (afterTurn space x (tableOf (s .args .t .now))) (s .args .t .now)) (is-n n)
 
 pub turn-at-spec : {M : Type 1} → statement M
-turn-at-spec = tie.close (tie.spec id-at-requires finish-pending-requires until-done-requires (λ c. search needs) returns)
+turn-at-spec = tie.close (tie.spec word-at-requires finish-pending-requires until-done-requires (λ c. search needs) returns)
