@@ -11,7 +11,7 @@ use Rattle.model.specs.Ring.{sound, verdict}
 use Rattle.model.specs.Settle.{afterRound, afterRounds, roundsRun, afterSettle, settleReply}
 use Rattle.model.specs.Refusals.{settleRefusal}
 use Rattle.model.specs.Calls.{written}
-use Rattle.laws.specs.Accepted.{settle-accepted}
+use Rattle.laws.specs.Accepted.{settle-accepted, settle-accepts}
 use Rattle.theory.specs.Runs.{Good, good-kept}
 use Rattle.theory.specs.Turns.{round-lasts}
 use Rattle.turns.specs.Lasting.{Lasting}
@@ -30,8 +30,7 @@ module _ (ws : List ℕ) where
     not-sound s = rw (h, s)
 
     pub no-cause : sound (tableOf ws) ≡ true → 0 ≡ settleRefusal ws
-    unfolding settleRefusal
-    no-cause s = rw (h, s)
+    no-cause s = sym (settle-accepts ws h s)
 
   pub granted : settleRefusal ws ≡ 0 → Good ws
   granted e = let a = settle-accepted ws e in record { well-formed = a .0; is-sound = a .1 }

@@ -364,14 +364,7 @@ mod verdicts {
 
     #[test]
     fn whole_lists() {
-        // Line 7 of document 01's session: the second entry of 10 is still 30.
-        let mut table = [0; 33];
-        new(&mut table, 2, &[10, 20, 30, 40]);
-        join(&mut table, 25, 20);
-        stabilize(&mut table, 25);
-        rectify(&mut table, 30, 25);
-        stabilize(&mut table, 20);
-        stabilize(&mut table, 20);
+        let mut table = crate::reference::steps::settled::session();
         assert_eq!(audit(&table), accept(&[5, 4, 5, 1]));
         assert_eq!(stabilize(&mut table, 10), accept(&[2, 20]));
         assert_eq!(audit(&table), accept(&[5, 5, 5, 2]));

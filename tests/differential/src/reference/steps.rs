@@ -130,11 +130,11 @@ pub fn settle(table: &mut [u32], limit: u32) -> Answer {
 }
 
 #[cfg(test)]
-mod settled {
+pub(super) mod settled {
     use super::*;
 
     /// Line 7 of document 01's session: the second entry of 10 is still 30.
-    fn session() -> [u32; 33] {
+    pub fn session() -> [u32; 33] {
         let mut table = [0; 33];
         new(&mut table, 2, &[10, 20, 30, 40]);
         join(&mut table, 25, 20);
