@@ -31,12 +31,11 @@
      14  round and settle: the table is not sound
 
    One ring. The promise is about seven calls: ring_join, ring_leave, ring_fail, ring_stabilize, ring_rectify, ring_lookup and ring_audit;
-   and ring_round and ring_settle may stand among them, for they are made of stabilize and rectify steps. From a sound table (ring_audit's
-   verdict 1 or 2) every list of them, refused ones included, leads to a sound table, and on a sound table
-   the first live entries form exactly one ring; as long as each accepted ring_fail is one that ring_leave would have granted in its place,
-   and nobody else writes the table. A loss that was not such a one is seen by an audit right after it: the verdict is 0. ring_new
-   starts with verdict 2. ring_image_read promises nothing of the ring: the image of a table with two rings is an image, and is read.
-   Audit after reading.
+   ring_round and ring_settle, which are made of stabilize and rectify steps, may stand among them. From a sound table (ring_audit's verdict 1
+   or 2) every list of them, refused ones included, leads to a sound table, and on a sound table the first live entries form exactly one
+   ring; as long as each accepted ring_fail is one that ring_leave would have granted in its place, and nobody else writes the table. A loss
+   that was not such a one is seen by an audit right after it: the verdict is 0. ring_new starts with verdict 2. ring_image_read promises
+   nothing of the ring: the image of a table with two rings is an image, and is read. Audit after reading.
 
    Stack. How many bytes of stack each call took where it went deepest, its return address included, rounded up: measured on painted stacks,
    with small and full tables, accepted and refused by each number (tests/c/stack.c). Keep some more free. No call takes any other memory.
