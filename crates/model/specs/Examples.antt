@@ -1,4 +1,4 @@
--- Document 01, "Table of settled examples": one statement over a list of cases, computed. Then document 02's Req 01 to Req 05.
+-- Document 01, "Table of settled examples": one statement over a list of cases, computed. Then document 02's Req 01 to Req 06.
 use Prim.Native.Nat.{ℕ}
 use mathlib.Core.Path.{_≡_, refl}
 use mathlib.Core.List.{List, [], _∷_, _++_, map}
@@ -6,8 +6,8 @@ use lib.ListN.{length, replicate, take}
 use Rattle.model.specs.Lists.{bit}
 use Rattle.model.specs.Identifier.{space, between, after}
 use Rattle.model.specs.Table.{Member, Table, size, tableOf, membersIn, wordsOf, wellFormed, formed, formedMember}
-use Rattle.model.specs.Ring.{named, sound, candidateInside, ideal, idealMember, verdict}
-use Rattle.model.specs.Steps.{stabilizeFromSuccessor, stabilizeFromPredecessor, stabilize, stabilizeReply, nextStep, renews}
+use Rattle.model.specs.Ring.{named, searched, passedBy, passedByAll, sound, candidateInside, ideal, idealMember, verdict}
+use Rattle.model.specs.Steps.{stabilizeFromSuccessor, stabilizeFromPredecessor, stabilize, stabilizeReply, nextStep, renews, lookup}
 use Rattle.model.specs.New.{newTable}
 use Rattle.model.specs.Held.{runsOf}
 use Rattle.model.specs.Settle.{delivered, lastStep, finished, afterTurn, afterRound, afterRounds, roundsRun, roundReply, settleReply}
@@ -170,14 +170,14 @@ waiting30 = record { r = 1; steps = 0; members = record { id = 10; predecessor =
 abbrev pub waiting15 : Table
 waiting15 = listsOfTwo (record { id = 10; predecessor = 50; pending = 1; candidate = 15; successors = 20 ∷ 30 ∷ [] } ∷ settledMember 30 10 (40 ∷ 50 ∷ []) ∷ settledMember 40 30 (50 ∷ 10 ∷ []) ∷ settledMember 50 40 (10 ∷ 30 ∷ []) ∷ [])
 
--- rounds run and verdict: 5 - 4 + 2 = 3 rounds after a join, the limit reached, limit 0, none for an ideal table; the verdict after one round. Step counts and verdicts:
+-- rounds run, verdict and entries passed over: 5 - 4 + 2 = 3 rounds after a join, the limit reached, limit 0, none for an ideal table; the verdict after one round. Step counts and verdicts:
 -- 16 steps in the three rounds, 25 being looked at in the second; the pending step of 10 finished first, and its notice delivered, 2 and 1 and 1; the pending step whose notice
 -- is lost, then again, then done, 3 and 1 and 1 and 1. 14 for two members, 1 for no table, and neither for a sound table that is not ideal
 abbrev pub settleCases : List Case
 settleCases =
     (roundsRun space 9 joined25 ∷ verdict (afterRounds space 3 joined25) ∷ afterRounds space 3 joined25 .steps ∷ [] gives 3 ∷ 2 ∷ 16 ∷ []) ∷
-    (settleReply space 1 joined25 gives 1 ∷ 1 ∷ []) ∷
-    (settleReply space 0 joined25 ++ settleReply space 9 (ring4 10 40) ++ roundReply space joined25 gives 0 ∷ 1 ∷ 0 ∷ 2 ∷ 1 ∷ []) ∷
+    (settleReply space 1 joined25 gives 1 ∷ 1 ∷ 0 ∷ []) ∷
+    (settleReply space 0 joined25 ++ settleReply space 9 (ring4 10 40) ++ roundReply space joined25 gives 0 ∷ 1 ∷ 0 ∷ 0 ∷ 2 ∷ 0 ∷ 1 ∷ []) ∷
     (afterRound space waiting30 .steps ∷ roundReply space waiting30 gives 4 ∷ 2 ∷ []) ∷
     (afterRound space waiting15 .steps ∷ roundReply space waiting15 gives 6 ∷ 2 ∷ []) ∷
     (settleRefusal (wordsOf (ring2 20)) ∷ settleRefusal blank ∷ settleRefusal (wordsOf joined25) ∷ [] gives 14 ∷ 1 ∷ 0 ∷ []) ∷ []
@@ -185,3 +185,23 @@ settleCases =
 pub settles : map (λ c. c .computed) settleCases ≡ map (λ c. c .expected) settleCases
 unfolding settleRefusal verdict sound ideal idealMember candidateInside between after stabilize stabilizeFromSuccessor stabilizeFromPredecessor stabilizeReply nextStep renews delivered lastStep finished afterTurn afterRound wellFormed formed formedMember
 settles = refl
+
+-- lists with dead entries before, between and after live ones: 10 passes over 15, 20 over 22 and 24, 30 over none
+abbrev pub stale : List Member
+stale = settledMember 10 30 (15 ∷ 20 ∷ 25 ∷ []) ∷ settledMember 20 10 (22 ∷ 24 ∷ 30 ∷ []) ∷ settledMember 30 20 (10 ∷ 12 ∷ 20 ∷ []) ∷ []
+
+-- the entries passed over: by each member, by all, and of a list without a live entry all; find's fourth value, the first member's and the last one's in it;
+-- 8 with its member alone. Settle's third value is of the table as it began, with no round and with one
+abbrev pub passedCases : List Case
+passedCases =
+    (map (passedBy stale) stale ++ passedByAll stale ∷ searched stale (15 ∷ 25 ∷ []) .passed ∷ [] gives 1 ∷ 2 ∷ 0 ∷ 3 ∷ 2 ∷ []) ∷
+    (lookup stale 10 20 .values gives 20 ∷ 10 ∷ 0 ∷ 1 ∷ []) ∷
+    (lookup stale 10 25 .values gives 30 ∷ 20 ∷ 1 ∷ 3 ∷ []) ∷
+    (lookup stale 30 15 .values gives 20 ∷ 10 ∷ 1 ∷ 1 ∷ []) ∷
+    (lookup stale 20 5 .values gives 10 ∷ 30 ∷ 1 ∷ 2 ∷ []) ∷
+    (lookup (membersIn (lone (7 ∷ 8 ∷ []))) 50 9 .number ∷ lookup (membersIn (lone (7 ∷ 8 ∷ []))) 50 9 .values gives 8 ∷ 50 ∷ []) ∷
+    (settleReply space 0 waiting15 ++ settleReply space 9 waiting15 gives 0 ∷ 1 ∷ 1 ∷ 1 ∷ 2 ∷ 1 ∷ []) ∷ []
+
+pub passes : map (λ c. c .computed) passedCases ≡ map (λ c. c .expected) passedCases
+unfolding verdict sound ideal idealMember candidateInside between after stabilize stabilizeFromSuccessor stabilizeFromPredecessor stabilizeReply nextStep renews delivered lastStep finished afterTurn afterRound wellFormed formed formedMember
+passes = refl

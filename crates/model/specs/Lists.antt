@@ -51,6 +51,11 @@ abbrev pub count : (ℕ → Bool) → List ℕ → ℕ
 count f [] = 0
 count f (x ∷ l) = bit (f x) + count f l
 
+-- all elements added up
+abbrev pub sum : List ℕ → ℕ
+sum [] = 0
+sum (x ∷ l) = x + sum l
+
 -- x is an element
 abbrev pub contains : List ℕ → ℕ → Bool
 contains [] x = false

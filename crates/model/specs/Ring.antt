@@ -1,11 +1,11 @@
 -- Document 01, "The table", second part: live, principal, sound, the ring, and the ideal table.
 use Prim.Native.Nat.{ℕ, zero, suc, _+_}
 use mathlib.Core.Bool.{Bool, false, not, _&&_, _||_}
-use mathlib.Core.List.{List, [], _∷_}
+use mathlib.Core.List.{List, [], _∷_, map}
 use mathlib.Core.Option.{Option, some, none}
 use lib.Dec.{ltb, leb, eqb}
 use lib.ListN.{length, getD}
-use Rattle.model.specs.Lists.{if_then_else_, option, every, any, count, contains, lastOf, same}
+use Rattle.model.specs.Lists.{if_then_else_, option, every, any, count, sum, contains, lastOf, same}
 use Rattle.model.specs.Identifier.{between}
 use Rattle.model.specs.Table.{Member, Table, ids}
 
@@ -58,14 +58,35 @@ sound T =
     && leb (T .r + 1) (principals (T .members))
     && every candidateInside (T .members)
 
+-- what a search for the first live entry of a list tells: the entry, if there is one, and how many entries it passed over (document 02, Req 06)
+pub record Search : Type 0 where
+  pub entry : Option ℕ
+  pub passed : ℕ
+
+-- one entry more passed over, before the others
+abbrev pub past : Search → Search
+past s = record { entry = s .entry; passed = suc (s .passed) }
+
+-- the search, entry by entry; a list without a live entry is passed over whole
+abbrev pub searched : List Member → List ℕ → Search
+searched ms [] = record { entry = none; passed = 0 }
+searched ms (x ∷ l) = if live ms x then record { entry = some x; passed = 0 } else past (searched ms l)
+
 -- the first live entry of a list
 abbrev pub firstLive : List Member → List ℕ → Option ℕ
-firstLive ms [] = none
-firstLive ms (x ∷ l) = if live ms x then some x else firstLive ms l
+firstLive ms l = searched ms l .entry
 
 -- a move: from x to its best successor, the first live entry of its list
 abbrev pub bestSuccessor : List Member → ℕ → Option ℕ
 bestSuccessor ms x = firstLive ms (named ms x .successors)
+
+-- how many entries of the member's list the search for its best successor passes over
+abbrev pub passedBy : List Member → Member → ℕ
+passedBy ms m = searched ms (m .successors) .passed
+
+-- the same of all members, added up
+abbrev pub passedByAll : List Member → ℕ
+passedByAll ms = sum (map (passedBy ms) ms)
 
 -- where k moves lead from x, if each of them can be made
 abbrev pub moved : List Member → ℕ → ℕ → Option ℕ

@@ -6,7 +6,7 @@ use lib.Dec.{eqb}
 use lib.ListN.{getD}
 use Rattle.model.specs.Lists.{if_then_else_}
 use Rattle.model.specs.Table.{Table, ids}
-use Rattle.model.specs.Ring.{live, named, isPending, verdict}
+use Rattle.model.specs.Ring.{live, named, isPending, verdict, passedByAll}
 use Rattle.model.specs.Steps.{stabilizeReply, stabilized, rectified}
 
 -- the notice of n is delivered to h, which rectifies; a notice to a non-member is lost
@@ -61,9 +61,9 @@ roundsRun w (suc limit) T = if eqb (verdict T) 2 then 0 else suc (roundsRun w li
 abbrev pub afterSettle : ℕ → ℕ → Table → Table
 afterSettle w limit T = afterRounds w (roundsRun w limit T) T
 
--- a round replies the verdict after it; settle the rounds run and the verdict
+-- a round replies the verdict after it; settle the rounds run, the verdict, and the entries passed over by all members of the table as it began (document 02, Req 06)
 abbrev pub roundReply : ℕ → Table → List ℕ
 roundReply w T = verdict (afterRound w T) ∷ []
 
 abbrev pub settleReply : ℕ → ℕ → Table → List ℕ
-settleReply w limit T = roundsRun w limit T ∷ verdict (afterSettle w limit T) ∷ []
+settleReply w limit T = roundsRun w limit T ∷ verdict (afterSettle w limit T) ∷ passedByAll (T .members) ∷ []

@@ -1,5 +1,5 @@
 -- Document 01, "The calls of a member": what each does to a member's record and to the table, and what it replies.
-use Prim.Native.Nat.{ℕ, zero, suc}
+use Prim.Native.Nat.{ℕ, zero, suc, _+_}
 use mathlib.Core.Bool.{Bool, not, _||_}
 use mathlib.Core.List.{List, [], _∷_, _++_}
 use lib.Dec.{ltb, eqb}
@@ -7,7 +7,7 @@ use lib.ListN.{length, drop}
 use Rattle.model.specs.Lists.{if_then_else_, option, bit, lastOf, withoutLast}
 use Rattle.model.specs.Identifier.{between, after}
 use Rattle.model.specs.Table.{Member, Table, wordLimit}
-use Rattle.model.specs.Ring.{live, named, successor, isPending, principals, ringMembers, verdict, bestSuccessor}
+use Rattle.model.specs.Ring.{live, named, successor, isPending, principals, ringMembers, verdict, bestSuccessor, passedBy}
 use Rattle.model.specs.Answer.{Answer, accepted}
 
 -- the record with another successor list
@@ -143,17 +143,18 @@ without n T = withMembers (removed n (T .members)) T
 
 -- Find
 
--- the walk at q, looking for the key k after so many moves; a list without a live entry is 8 and q.
+-- the walk at q, looking for the key k after so many moves and with so many entries passed over; a list without a live entry is 8 and q.
 -- The first number bounds the places stood at: the member count is enough on every well-formed table.
-abbrev pub lookupFrom : List Member → ℕ → ℕ → ℕ → ℕ → Answer
-lookupFrom ms zero k q moves = record { number = 8; values = q ∷ [] }
-lookupFrom ms (suc n) k q moves =
+abbrev pub lookupFrom : List Member → ℕ → ℕ → ℕ → ℕ → ℕ → Answer
+lookupFrom ms zero k q moves passed = record { number = 8; values = q ∷ [] }
+lookupFrom ms (suc n) k q moves passed =
     option (bestSuccessor ms q) (record { number = 8; values = q ∷ [] })
-    (λ b. if eqb k b || between q k b then accepted (b ∷ q ∷ moves ∷ []) else lookupFrom ms n k b (suc moves))
+    (λ b. if eqb k b || between q k b then accepted (b ∷ q ∷ moves ∷ (passed + passedBy ms (named ms q)) ∷ [])
+    else lookupFrom ms n k b (suc moves) (passed + passedBy ms (named ms q)))
 
--- find key k from the member n: owner, the member it was found at, moves made
+-- find key k from the member n: owner, the member it was found at, moves made, and the entries passed over at the members stood at (document 02, Req 06)
 abbrev pub lookup : List Member → ℕ → ℕ → Answer
-lookup ms n k = lookupFrom ms (length ms) k n 0
+lookup ms n k = lookupFrom ms (length ms) k n 0 0
 
 -- Audit
 
