@@ -127,7 +127,9 @@ struct ring_answer ring_rectify(uint32_t *table, size_t words, uint32_t n, uint3
 struct ring_answer ring_round(uint32_t *table, size_t words);
 
 /* Settle: rounds until the verdict is 2, or until so many have run as limit says; any limit, 0 runs none. The verdict is looked at before each
-   round, so an ideal table gets none. values: rounds run, verdict. 1, 14.
+   round, so an ideal table gets none. values: rounds run, verdict, passed. 1, 14. passed is of the table as it began, whether or not a round was
+   run: the dead entries before the first live one of each list, added up over all members, at most r - 1 a member. It tells how stale the
+   lists were: 0 if each member's first entry was a member, as on an ideal table.
    Enough are members - principals + r rounds, by ring_audit's numbers before the call: so many, or any more, make every sound table ideal, and
    that is at most members - 1. So a limit of 255 is never reached with verdict 1. A round after that many changes the step count only. */
 struct ring_answer ring_settle(uint32_t *table, size_t words, uint32_t limit);
@@ -140,7 +142,11 @@ struct ring_answer ring_fail(uint32_t *table, size_t words, uint32_t n);
    them, are all granted, if k is at most r - 1 and at most members - r - 1. */
 struct ring_answer ring_leave(uint32_t *table, size_t words, uint32_t n);
 
-/* Find key k from the member n. values: owner, the member it was found at, moves made. Nothing is written. 1, 3, 8. */
+/* Find key k from the member n. values: owner, the member it was found at, moves made, passed. Nothing is written. 1, 3, 8.
+   passed tells how stale the lists were on the way: the dead entries before the first live one in the list of each member stood at, the one
+   it was found at too, added up; at most r - 1 a member. 0: each of them went by its first entry, always so where ring_audit's verdict is 2.
+   Above 0: shelves that have gone still stand at the front of these lists, and their members are to stabilize. Entries behind the first live
+   one are not looked at and not counted. 8 says nothing of what was passed. */
 struct ring_answer ring_lookup(const uint32_t *table, size_t words, uint32_t n, uint32_t k);
 
 /* The keys that the member n holds, of count strictly rising keys; no key and one key count as rising. A key is held by the first member at

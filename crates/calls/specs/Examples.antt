@@ -43,7 +43,7 @@ abbrev pub lines : List Call
 lines = Join 25 20 ∷ Stabilize 25 ∷ Rectify 30 25 ∷ Stabilize 20 ∷ Stabilize 20 ∷ Audit ∷ Join 30 20 ∷ Leave 10 ∷ Leave 20 ∷ Stabilize 40 ∷ Lookup 30 15 ∷ Rectify 30 25 ∷ Fail 20 ∷ Lookup 40 15 ∷ Join 45 40 ∷ []
 
 abbrev pub replies : List Answer
-replies = countOf (Members 5) ∷ stepOf (Done 30) ∷ noticeOf New ∷ stepOf (Look 25) ∷ stepOf (Done 25) ∷ reportOf (Audited 5 4 5 1) ∷ countOf (Declined 2) ∷ countOf (Members 4) ∷ countOf (Declined 6) ∷ stepOf Again ∷ ownerOf (Found 20 40 1) ∷ noticeOf Same ∷ countOf (Members 3) ∷ ownerOf (Stuck 40) ∷ countOf (Declined 13) ∷ []
+replies = countOf (Members 5) ∷ stepOf (Done 30) ∷ noticeOf New ∷ stepOf (Look 25) ∷ stepOf (Done 25) ∷ reportOf (Audited 5 4 5 1) ∷ countOf (Declined 2) ∷ countOf (Members 4) ∷ countOf (Declined 6) ∷ stepOf Again ∷ ownerOf (Found 20 40 1 0) ∷ noticeOf Same ∷ countOf (Members 3) ∷ ownerOf (Stuck 40) ∷ countOf (Declined 13) ∷ []
 
 session : answers lines (newWords room 2 four) ≡ replies
 unfolding between after formedMember formed wellFormed candidateInside sound idealMember ideal verdict stabilizeFromSuccessor stabilizeFromPredecessor stabilize stabilizeReply nextStep renews full cutsOff tooFewPrincipals noNewTable joinRefusal memberRefusal leaveRefusal auditRefusal newRefusal joinAnswer joinWords stabilizeAnswer stabilizeWords rectifyAnswer rectifyWords failAnswer failWords leaveAnswer leaveWords lookupAnswer auditAnswer newAnswer newWords callAnswer callWords

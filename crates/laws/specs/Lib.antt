@@ -4,6 +4,7 @@ pub mod Lists
 pub mod Iterate
 pub mod Extended
 pub mod Places
+pub mod Searches
 pub mod Keys
 pub mod Words
 pub mod Pairs

@@ -105,4 +105,4 @@ overlay-over : (new between old : List ℕ) → length new ≡ length between �
 overlay-over new between old e = rw (e, drop-at between (drop (length between) old) (length between) refl)
 
 pub written-over : (T U : Table) (ws : List ℕ) → Lengths (T .r) (T .members) → Lengths (U .r) (U .members) → size T ≡ size U → written T (written U ws) ≡ written T ws
-written-over T U ws h k e = overlay-over (wordsOf T) (wordsOf U) ws (words-length T h ∙ (e ∙ sym (words-length U k)))
+written-over T U ws h k e = overlay-over (wordsOf T) (wordsOf U) ws (omega (arith, words-length T h, words-length U k))

@@ -191,7 +191,7 @@ abbrev pub stale : List Member
 stale = settledMember 10 30 (15 ∷ 20 ∷ 25 ∷ []) ∷ settledMember 20 10 (22 ∷ 24 ∷ 30 ∷ []) ∷ settledMember 30 20 (10 ∷ 12 ∷ 20 ∷ []) ∷ []
 
 -- the entries passed over: by each member, by all, and of a list without a live entry all; find's fourth value, the first member's and the last one's in it;
--- 8 with its member alone. Settle's third value is of the table as it began, with no round and with one
+-- 8 with its member alone
 abbrev pub passedCases : List Case
 passedCases =
     (map (passedBy stale) stale ++ passedByAll stale ∷ searched stale (15 ∷ 25 ∷ []) .passed ∷ [] gives 1 ∷ 2 ∷ 0 ∷ 3 ∷ 2 ∷ []) ∷
@@ -199,9 +199,13 @@ passedCases =
     (lookup stale 10 25 .values gives 30 ∷ 20 ∷ 1 ∷ 3 ∷ []) ∷
     (lookup stale 30 15 .values gives 20 ∷ 10 ∷ 1 ∷ 1 ∷ []) ∷
     (lookup stale 20 5 .values gives 10 ∷ 30 ∷ 1 ∷ 2 ∷ []) ∷
-    (lookup (membersIn (lone (7 ∷ 8 ∷ []))) 50 9 .number ∷ lookup (membersIn (lone (7 ∷ 8 ∷ []))) 50 9 .values gives 8 ∷ 50 ∷ []) ∷
-    (settleReply space 0 waiting15 ++ settleReply space 9 waiting15 gives 0 ∷ 1 ∷ 1 ∷ 1 ∷ 2 ∷ 1 ∷ []) ∷ []
+    (lookup (membersIn (lone (7 ∷ 8 ∷ []))) 50 9 .number ∷ lookup (membersIn (lone (7 ∷ 8 ∷ []))) 50 9 .values gives 8 ∷ 50 ∷ []) ∷ []
 
 pub passes : map (λ c. c .computed) passedCases ≡ map (λ c. c .expected) passedCases
-unfolding verdict sound ideal idealMember candidateInside between after stabilize stabilizeFromSuccessor stabilizeFromPredecessor stabilizeReply nextStep renews delivered lastStep finished afterTurn afterRound wellFormed formed formedMember
+unfolding between
 passes = refl
+
+-- settle's third value is of the table as it began, with no round and with one: 10 passes over 20 at first, and over none then
+pub settle-passes : settleReply space 0 waiting15 ++ settleReply space 9 waiting15 ≡ 0 ∷ 1 ∷ 1 ∷ 1 ∷ 2 ∷ 1 ∷ []
+unfolding verdict sound ideal idealMember candidateInside between after stabilize stabilizeFromSuccessor stabilizeFromPredecessor stabilizeReply nextStep renews delivered lastStep finished afterTurn afterRound
+settle-passes = refl

@@ -1,4 +1,4 @@
--- Document 01, "The rehearsal program": its session, with line 7 as document 02's Req 04 has it, computed by the definitions.
+-- Document 01, "The rehearsal program": its session, with line 7 as document 02's Req 04 and line 12 as its Req 06 has it, computed by the definitions.
 use Prim.Native.Nat.{ℕ, _*_}
 use mathlib.Core.Path.{_≡_, refl}
 use mathlib.Core.List.{List, [], _∷_, _++_}
@@ -46,7 +46,7 @@ output =
     57 ∷ 32 ∷ 111 ∷ 117 ∷ 116 ∷ 32 ∷ 111 ∷ 107 ∷ 32 ∷ 52 ∷ 10 ∷
     49 ∷ 48 ∷ 32 ∷ 111 ∷ 117 ∷ 116 ∷ 32 ∷ 110 ∷ 111 ∷ 32 ∷ 54 ∷ 10 ∷
     49 ∷ 49 ∷ 32 ∷ 115 ∷ 116 ∷ 97 ∷ 98 ∷ 32 ∷ 111 ∷ 107 ∷ 32 ∷ 97 ∷ 103 ∷ 97 ∷ 105 ∷ 110 ∷ 10 ∷
-    49 ∷ 50 ∷ 32 ∷ 102 ∷ 105 ∷ 110 ∷ 100 ∷ 32 ∷ 111 ∷ 107 ∷ 32 ∷ 50 ∷ 48 ∷ 32 ∷ 52 ∷ 48 ∷ 32 ∷ 49 ∷ 10 ∷ []
+    49 ∷ 50 ∷ 32 ∷ 102 ∷ 105 ∷ 110 ∷ 100 ∷ 32 ∷ 111 ∷ 107 ∷ 32 ∷ 50 ∷ 48 ∷ 32 ∷ 52 ∷ 48 ∷ 32 ∷ 49 ∷ 32 ∷ 48 ∷ 10 ∷ []
 
 session : sessionText input noMembers ≡ output
 unfolding sessionText lineText lineWords wordAnswer wordWords answered unread answerText fieldsText digits meaning numbersOf wordOf isNumber between after formedMember formed wellFormed candidateInside sound idealMember ideal verdict stabilizeFromSuccessor stabilizeFromPredecessor stabilize stabilizeReply nextStep renews full cutsOff tooFewPrincipals noNewTable joinRefusal memberRefusal leaveRefusal auditRefusal newRefusal joinAnswer joinWords stabilizeAnswer stabilizeWords rectifyAnswer rectifyWords leaveAnswer leaveWords lookupAnswer auditAnswer newAnswer newWords callAnswer callWords

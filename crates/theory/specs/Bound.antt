@@ -6,7 +6,7 @@ use mathlib.Core.List.{List, [], _∷_}
 use lib.ListN.{length, getD, set}
 use Rattle.model.specs.Identifier.{space}
 use Rattle.model.specs.Table.{Table, tableOf, membersIn, formed, wellFormed}
-use Rattle.model.specs.Ring.{live, principals, sound, verdict}
+use Rattle.model.specs.Ring.{live, principals, sound, verdict, passedByAll}
 use Rattle.model.specs.Answer.{accepted}
 use Rattle.model.specs.Steps.{stabilized}
 use Rattle.model.specs.Settle.{isDone, lastStep, finished, afterTurn}
@@ -42,11 +42,11 @@ document02 ws = 2 * length (membersIn ws) * length (membersIn ws) + tableOf ws .
 abbrev pub EnoughIsFew : Type 0
 EnoughIsFew = (ws : List ℕ) → sound (tableOf ws) ≡ true → enough ws ≤ oneLess ws
 
--- settle with the limit reports verdict 2, after at most `enough` rounds
+-- settle with the limit reports verdict 2, after at most `enough` rounds, and what all members of the table as it began pass over
 pub record Ends (ws : List ℕ) (limit : ℕ) : Type 0 where
   pub rounds-run : ℕ
   pub few : rounds-run ≤ enough ws
-  pub reports : settleAnswer ws limit ≡ accepted (rounds-run ∷ 2 ∷ [])
+  pub reports : settleAnswer ws limit ≡ accepted (rounds-run ∷ 2 ∷ passedByAll (membersIn ws) ∷ [])
 
 -- so it does on every sound table, with so high a limit
 abbrev pub SettleEnds : (List ℕ → ℕ) → Type 0

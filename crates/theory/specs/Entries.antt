@@ -13,6 +13,7 @@ use Rattle.model.specs.Table.{Member, ids}
 use Rattle.model.specs.Ring.{live, named, skips, principal, firstLive}
 use Rattle.laws.specs.Order.{Inside, Outside, inside?, inside-true, outside-false, inside-outside, outside-join, Before, Placed, earlier, together, later, placed, before-trans, before-irrefl, before-start, before-inside, stay-passes, back-passes}
 use Rattle.laws.specs.Lists.{In, here, there, NoDup, pigeonhole, every-in, in-every, live-in, in-live, found}
+use Rattle.laws.specs.Searches.{first-next}
 use Rattle.theory.specs.Claim.{InRingOrder}
 
 -- no pair of the extended list a ∷ l skips q
@@ -113,7 +114,7 @@ in-ring-order ps s l nd cl h = record {
 -- it is a live entry
 pub firstLive-in : {y : ℕ} (ms : List Member) (l : List ℕ) → firstLive ms l ≡ some y → In y (ids ms) × In y l
 firstLive-in ms [] h = let z : _≡_ {A = ℕ} 0 1 = cc in absurd (omega arith)
-firstLive-in {y} ms (x ∷ l) h = go (firstLive-in ms l) (live ms x) refl h
+firstLive-in {y} ms (x ∷ l) h = go (firstLive-in ms l) (live ms x) refl (sym (first-next ms x l) ∙ h)
   where
     go : (firstLive ms l ≡ some y → In y (ids ms) × In y l) → (b : Bool) → live ms x ≡ b → (if b then some x else firstLive ms l) ≡ some y → In y (ids ms) × In y (x ∷ l)
     go ih true e k = let q : x ≡ y = cc in (rw q at (live-in ms x e), here (sym q))
@@ -122,7 +123,7 @@ firstLive-in {y} ms (x ∷ l) h = go (firstLive-in ms l) (live ms x) refl h
 -- there is one where some entry is live
 pub firstLive-some : (ms : List Member) (l : List ℕ) → any (live ms) l ≡ true → (y : ℕ) × (firstLive ms l ≡ some y)
 firstLive-some ms [] h = absurd (false≢true h)
-firstLive-some ms (x ∷ l) h = go (firstLive-some ms l) (live ms x) h
+firstLive-some ms (x ∷ l) h = let w = go (firstLive-some ms l) (live ms x) h in (w .0, first-next ms x l ∙ w .1)
   where
     go : (any (live ms) l ≡ true → (y : ℕ) × (firstLive ms l ≡ some y)) → (b : Bool) → (b || any (live ms) l) ≡ true → (y : ℕ) × ((if b then some x else firstLive ms l) ≡ some y)
     go ih true k = (x, refl)
@@ -131,7 +132,7 @@ firstLive-some ms (x ∷ l) h = go (firstLive-some ms l) (live ms x) h
 -- the way to it passes no member that no pair skips: the entries before it are dead
 pub firstLive-outside : {p y : ℕ} (ms : List Member) (a : ℕ) (l : List ℕ) → In p (ids ms) → Clear p a l → firstLive ms l ≡ some y → Outside a p y
 firstLive-outside ms a [] m c h = let z : _≡_ {A = ℕ} 0 1 = cc in absurd (omega arith)
-firstLive-outside {p} {y} ms a (x ∷ l) m c h = go (firstLive-outside ms x l m (c .1)) (live ms x) refl h
+firstLive-outside {p} {y} ms a (x ∷ l) m c h = go (firstLive-outside ms x l m (c .1)) (live ms x) refl (sym (first-next ms x l) ∙ h)
   where
     go : (firstLive ms l ≡ some y → Outside x p y) → (b : Bool) → live ms x ≡ b → (if b then some x else firstLive ms l) ≡ some y → Outside a p y
     go ih true e k = let q : x ≡ y = cc in rw q at (c .0)

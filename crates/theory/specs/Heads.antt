@@ -11,7 +11,7 @@ use borrow.Author.Tests.{eqb-true, eqb-false, not-true}
 use Rattle.model.specs.Lists.{if_then_else_}
 use Rattle.model.specs.Identifier.{space}
 use Rattle.model.specs.Table.{Member, Table, ids, tableOf, membersIn, wellFormed}
-use Rattle.model.specs.Ring.{live, named, successor, isPending, firstLive, bestSuccessor}
+use Rattle.model.specs.Ring.{live, named, successor, isPending, Search, bestSuccessor}
 use Rattle.model.specs.Answer.{Answer, accepted, answer}
 use Rattle.model.specs.Steps.{joiner, inserted, joined, dropHead, adopt, awaitCandidate, clearPending, offered, isBetter, stabilizeFromSuccessor, stabilizeFromPredecessor, stabilize, stabilizeReply, stabilized, replaced, rectifyIn, rectified}
 use Rattle.model.specs.Refusals.{joinRefusal, memberRefusal, leaveRefusal}
@@ -22,6 +22,7 @@ use Rattle.laws.specs.Accepted.{answer-number, afterwards-has, join-accepted, m
 use Rattle.laws.specs.Tables.{wellFormed-facts}
 use Rattle.laws.specs.Stabilize.{same-id}
 use Rattle.laws.specs.Rectify.{rectify-same}
+use Rattle.laws.specs.Searches.{found-first}
 use Rattle.theory.specs.Keep.{Changed, replaced-changed, replaced-named, replaced-others, inserted-changed, inserted-in, inserted-named, inserted-others}
 use Rattle.theory.specs.Left.{joiner-listed, stabilize-listed, rectify-listed, joined-read, stabilized-read, rectified-read}
 
@@ -152,10 +153,6 @@ run-headed (c ∷ cs) ws n h g = let b = and-true (not (goes ws c)) _ g in run-h
 
 -- What follows for n
 
-first-best : (ms : List Member) (l : List ℕ) → 1 ≤ length l → live ms (getD l 0 0) ≡ true → firstLive ms l ≡ some (getD l 0 0)
-first-best ms [] s h = absurd (omega arith)
-first-best ms (x ∷ l) s h = rw h
-
 reply-not-again : (ms : List Member) (m : Member) → live ms (successor m) ≡ true → stabilizeReply ms m ≡ 0 ∷ [] → ⊥
 unfolding stabilizeReply
 reply-not-again ms m h e = go (isPending m) (isBetter ms m) (rw h at e)
@@ -170,7 +167,7 @@ unfolding stabilizeAnswer
 live-head ws n h = record {
   member = h .member;
   first-live = h .first-live;
-  best = first-best (membersIn ws) (named (membersIn ws) n .successors) (h .some-entry) (h .first-live);
+  best = ap (λ (f : Search). f .entry) (found-first (membersIn ws) (named (membersIn ws) n .successors) (h .some-entry) (h .first-live));
   not-again = go (memberRefusal ws n);
 }
   where

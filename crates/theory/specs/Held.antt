@@ -12,11 +12,12 @@ use borrow.Author.Tests.{lt-ltb, le-ltb, le-leb, lt-leb, eq-eqb, ne-eqb, leb-tru
 use Rattle.model.specs.Lists.{bit, rising}
 use Rattle.model.specs.Identifier.{space}
 use Rattle.model.specs.Table.{Member, Table, tableOf, membersIn, ids, wellFormed}
-use Rattle.model.specs.Ring.{live, named, successor, bestSuccessor, firstLive, nextUp, nextDown, ideal}
+use Rattle.model.specs.Ring.{live, named, successor, Search, searched, bestSuccessor, nextUp, nextDown, ideal}
 use Rattle.model.specs.Held.{firstFrom, lowest, holder, keysTo, Run, _upTo_, runsOf}
 use Rattle.model.specs.Calls.{lookupAnswer}
 use Rattle.laws.specs.Order.{Comparison, less, equals, greater, compare, less?, equal?, Inside, mid, high, low, Outside, below, beyond, rest, inside-true, true-inside, inside-outside}
-use Rattle.laws.specs.Lists.{In, here, there, in-cons, in-nil, count-le, count-length, Rising, rising-true, above-in, above-rising, length-ids, found, live-in, in-live}
+use Rattle.laws.specs.Lists.{In, here, there, in-cons, in-nil, count-le, count-length, Rising, rising-true, above-in, above-rising, length-ids, found, in-ids, live-in, in-live}
+use Rattle.laws.specs.Searches.{found-first}
 use Rattle.laws.specs.Extended.{head-in}
 use Rattle.laws.specs.Places.{first-least, next-ups-first}
 use Rattle.laws.specs.Keys.{key-below, key-above}
@@ -210,17 +211,16 @@ held-parts ws ks wf one r =
 ideal-successor : (T : Table) → 1 ≤ T .r → ideal T ≡ true → {m : Member} → In m (T .members) → successor m ≡ nextUp (ids (T .members)) (m .id)
 ideal-successor T some-entry h {m} i = ap (λ (l : List ℕ). getD l 0 0) (ideal-facts T h .each m i .list) ∙ next-ups-first (T .r) (ids (T .members)) (m .id) some-entry
 
-head-live : (ms : List Member) (l : List ℕ) → 1 ≤ length l → live ms (getD l 0 0) ≡ true → firstLive ms l ≡ some (getD l 0 0)
-head-live ms [] h e = absurd (omega arith)
-head-live ms (x ∷ l) h e = rw e
+-- each member's search finds the next member up at once
+pub ideal-found : (w : ℕ) (T : Table) → Formed w T → ideal T ≡ true → {m : Member} → In m (T .members) → searched (T .members) (m .successors) ≡ record { entry = some (nextUp (ids (T .members)) (m .id)); passed = 0 }
+ideal-found w T fo h {m} i =
+    let ms : List Member = T .members in
+    let s : successor m ≡ nextUp (ids ms) (m .id) = ideal-successor T (fo .r-low) h i in
+    let l : live ms (successor m) ≡ true = rw s (in-live ms (up-in (ids ms) (in-some (in-ids i)) (m .id))) in
+    found-first ms (m .successors) (omega (arith, fo .each m i .list-length, fo .r-low)) l ∙ ap (λ (x : ℕ). record { entry = some x; passed = 0 }) s
 
 ideal-best : (w : ℕ) (T : Table) → Formed w T → ideal T ≡ true → {q : ℕ} → In q (ids (T .members)) → bestSuccessor (T .members) q ≡ some (nextUp (ids (T .members)) q)
-ideal-best w T fo h {q} i =
-    let ms : List Member = T .members in
-    let f = found ms i in
-    let s : successor (named ms q) ≡ nextUp (ids ms) q = ideal-successor T (fo .r-low) h (f .0) ∙ ap (nextUp (ids ms)) (f .1) in
-    let l : live ms (successor (named ms q)) ≡ true = rw s (in-live ms (up-in (ids ms) (in-some i) q)) in
-    head-live ms (named ms q .successors) (omega (arith, fo .each (named ms q) (f .0) .list-length, fo .r-low)) l ∙ ap some s
+ideal-best w T fo h {q} i = let f = found (T .members) i in ap (λ (s : Search). s .entry) (ideal-found w T fo h (f .0)) ∙ ap (λ (x : ℕ). some (nextUp (ids (T .members)) x)) (f .1)
 
 module _ (ws : List ℕ) (wf : wellFormed ws ≡ true) (h : ideal (tableOf ws) ≡ true) where
   fo : Formed space (tableOf ws)
@@ -237,5 +237,5 @@ module _ (ws : List ℕ) (wf : wellFormed ws ≡ true) (h : ideal (tableOf ws) �
       go (inl o) =
           let up : nextUp (ids (membersIn ws)) (o .q) ≡ o .b = cc (moves-up (o .q) (o .place-live), o .move) in
           let e = owner-holds (ids (membersIn ws)) (fo .ids-rising) (o .q) (o .b) (live-in (membersIn ws) (o .b) (o .owner-live)) (λ z j. rw up at (up-spares (ids (membersIn ws)) (fo .ids-rising) (o .q) z j)) k (o .owns) in
-          record { place = o .q; moves = o .moves; answer = rw e (o .answer) }
+          record { place = o .q; moves = o .moves; passed = o .passed; answer = rw e (o .answer) }
       go (inr c) = let z : _≡_ {A = ℕ} 0 1 = cc (moves-up (c .q) (c .place-live), c .no-move) in absurd (omega arith)

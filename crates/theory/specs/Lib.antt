@@ -16,6 +16,7 @@ pub mod Withdrawals
 pub mod Lookup
 pub mod Owners
 pub mod Held
+pub mod Passed
 pub mod Pairs
 pub mod Moves
 pub mod Images

@@ -18,11 +18,12 @@ use Rattle.laws.specs.Tables.{Formed, Sound, wellFormed-facts, sound-facts}
 use Rattle.theory.specs.Static.{best, best-is, closed, ring-clear, best-onRing, moved-iterate}
 use Rattle.theory.specs.Lookup.{Owned, Answered, lookupAnswer-answers}
 
--- find for the key k from n gives this owner, found at some member after some moves
+-- find for the key k from n gives this owner, found at some member after some moves, with some entries passed over
 pub record Finds (ws : List ℕ) (n k owner : ℕ) : Type 0 where
   pub place : ℕ
   pub moves : ℕ
-  pub answer : lookupAnswer ws n k ≡ accepted (owner ∷ place ∷ moves ∷ [])
+  pub passed : ℕ
+  pub answer : lookupAnswer ws n k ≡ accepted (owner ∷ place ∷ moves ∷ passed ∷ [])
 
 -- find for the key k from n and from m gives one owner, a ring member
 pub record OneOwner (ws : List ℕ) (n m k : ℕ) : Type 0 where
@@ -115,4 +116,4 @@ module _ (ws : List ℕ) (wf : wellFormed ws ≡ true) (s : sound (tableOf ws) �
       let c = ended n k ln on a in
       let d = ended m k lm om b in
       let same : b .b ≡ a .b = sym (one-end (c .q) (a .b) (d .q) (b .b) k (c .owns) (d .owns) (clear c (b .b) (b .owner-live) (end-on d)) (clear d (a .b) (a .owner-live) (end-on c))) in
-      record { owner = a .b; on = end-on c; from-n = record { place = a .q; moves = a .moves; answer = a .answer }; from-m = record { place = b .q; moves = b .moves; answer = rw same at (b .answer) } }
+      record { owner = a .b; on = end-on c; from-n = record { place = a .q; moves = a .moves; passed = a .passed; answer = a .answer }; from-m = record { place = b .q; moves = b .moves; passed = b .passed; answer = rw same at (b .answer) } }

@@ -11,12 +11,11 @@ use denote.Enum.Declared.{tagOf}
 use types.Run.{OneOf}
 use Rattle.model.specs.Identifier.{space}
 use Rattle.model.specs.Table.{Member, Table, tableOf, membersIn}
-use Rattle.model.specs.Ring.{live, named, nobody, isPending}
+use Rattle.model.specs.Ring.{live, named, nobody}
 use Rattle.model.specs.Answer.{Answer, accepted}
 use Rattle.model.specs.Steps.{stabilize, stabilizeReply, nextStep, stabilized, replaced, rectifyIn, rectified, withMembers, withSteps}
 use Rattle.model.specs.Settle.{delivered, nextReply, isDone, lastStep}
 use Rattle.model.specs.Calls.{written}
-use Rattle.laws.specs.Stabilize.{done-pending}
 use Rattle.theory.specs.Runs.{Good, good-kept}
 use Rattle.theory.specs.Turns.{acted-step, acted-delivered}
 use Rattle.step.specs.Answers.{answerOf}
@@ -92,7 +91,3 @@ module _ {ws us : List ℕ} {k n : ℕ} (g : Good ws) (s : Stands ws k n) (e : u
       let o = stepped .follows in
       let l = acted-delivered space n h (tableOf us) (o .lasts .kept) (stands-in (stands-still g o s)) .lasts in
       q ∙ (written-still g o (delivered n h (tableOf us)) l ∙ ap (λ (T : Table). written T ws) (ap (delivered n h) (stepped .has) ∙ done-last n h (tableOf ws) r))
-
--- a pending step is "done"
-pub pending-done : (n : ℕ) (T : Table) → isPending (named (T .members) n) ≡ true → isDone n T ≡ true
-pending-done n T p = ap (λ (l : List ℕ). eqb (getD l 0 0) 2) (sym (done-pending (T .members) (named (T .members) n) p))

@@ -15,13 +15,13 @@ use Rattle.model.specs.Steps.{stabilized}
 use Rattle.model.specs.Settle.{isDone, lastStep, finished, untilDone, afterTurn, afterTurns, afterRound}
 use Rattle.model.specs.Calls.{written}
 use Rattle.theory.specs.Runs.{Good, good-kept}
+use Rattle.theory.specs.Calm.{pending-done}
 use Rattle.theory.specs.Turns.{acted-step, acted-finished, acted-until, acted-turn}
 use Rattle.table.specs.Search.{Stands}
 use Rattle.table.proofs.Members.{ids-count}
 use Rattle.table.proofs.Place.{same-words, own-place}
 use Rattle.turns.specs.Lasting.{Lasting}
 use Rattle.turns.proofs.Lasting.{good-formed, stands-in, lasting-none, same-count, stands-still, written-still, Next, lasting-next}
-use Rattle.turns.proofs.Steps.{pending-done}
 
 -- a step of n, with its notice if it is "done"
 abbrev pub stepOf : ℕ → Table → Table

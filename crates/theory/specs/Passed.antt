@@ -1,0 +1,146 @@
+-- Document 02, Req 06, on every table: the entries that a search passes over are dead, and the next one is the best successor; find's other values are
+-- what they were before the request; on an ideal table nothing is passed over.
+use Prim.Native.Nat.{ℕ, zero, suc, _+_, _≤_, _<_}
+use mathlib.Core.Path.{_≡_, refl, sym, ap, _∙_}
+use mathlib.Core.Logic.{_⊎_, inl, inr}
+use mathlib.Core.Bool.{Bool, true, false, _||_}
+use mathlib.Core.List.{List, [], _∷_, map}
+use mathlib.Core.Option.{Option, some, none}
+use native.Mathlib.Omega.{arith}
+use lib.Dec.{eqb}
+use lib.ListN.{length, getD, take}
+use Rattle.model.specs.Lists.{if_then_else_, option, sum}
+use Rattle.model.specs.Identifier.{between, space}
+use Rattle.model.specs.Table.{Member, Table, tableOf, membersIn, ids, wellFormed}
+use Rattle.model.specs.Ring.{live, named, successor, Search, past, searched, firstLive, bestSuccessor, passedBy, passedByAll, sound, ideal, verdict}
+use Rattle.model.specs.Answer.{Answer, accepted, answer}
+use Rattle.model.specs.Steps.{lookupFrom, lookup}
+use Rattle.model.specs.Settle.{roundsRun}
+use Rattle.model.specs.Refusals.{memberRefusal}
+use Rattle.model.specs.Calls.{lookupAnswer, settleAnswer}
+use Rattle.laws.specs.Lists.{In, here, there, found, live-in}
+use Rattle.laws.specs.Accepted.{member-accepts, settle-accepts}
+use Rattle.laws.specs.Tables.{wellFormed-facts}
+use Rattle.laws.specs.Verdicts.{verdict-ideal}
+use Rattle.theory.specs.Entries.{firstLive-in}
+use Rattle.theory.specs.Lookup.{passedOn, Answered, lookupAnswer-answers}
+use Rattle.theory.specs.Owners.{Finds}
+use Rattle.theory.specs.Held.{ideal-found}
+
+-- What a search tells, of every list; of a member's list the entry found is its best successor
+
+-- the entries passed over are dead; the next is live, and the one found; where none is found, all are passed over
+pub record Tells (ms : List Member) (l : List ℕ) (s : Search) : Type 0 where
+  pub dead : (i : ℕ) → i < s .passed → live ms (getD l i 0) ≡ false
+  pub next : (y : ℕ) → s .entry ≡ some y → (s .passed < length l) × (getD l (s .passed) 0 ≡ y) × (live ms y ≡ true)
+  pub nothing : s .entry ≡ none → s .passed ≡ length l
+
+pub search-tells : (ms : List Member) (l : List ℕ) → Tells ms l (searched ms l)
+search-tells ms [] = record {
+  dead = λ i h. absurd (omega arith);
+  next = λ y e. let c : _≡_ {A = ℕ} 0 1 = cc e in absurd (omega arith);
+  nothing = λ e. refl;
+}
+search-tells ms (x ∷ l) = go (live ms x) refl (search-tells ms l)
+  where
+    later : live ms x ≡ false → Tells ms l (searched ms l) → (i : ℕ) → i < suc (searched ms l .passed) → live ms (getD (x ∷ l) i 0) ≡ false
+    later e t zero h = e
+    later e t (suc i) h = t .dead i (omega arith)
+
+    go : (b : Bool) → live ms x ≡ b → Tells ms l (searched ms l) → Tells ms (x ∷ l) (if b then record { entry = some x; passed = 0 } else past (searched ms l))
+    go true e t = record {
+      dead = λ i h. absurd (omega arith);
+      next = λ y f. let q : x ≡ y = cc f in (omega arith, q, rw q at e);
+      nothing = λ f. let c : _≡_ {A = ℕ} 0 1 = cc f in absurd (omega arith);
+    }
+    go false e t = record {
+      dead = later e t;
+      next = λ y f. let w = t .next y f in (omega (arith, w .0), w .1, w .2);
+      nothing = λ f. ap suc (t .nothing f);
+    }
+
+-- Find as it was before the request
+
+-- document 01's walk, with three values
+abbrev pub walkBefore : List Member → ℕ → ℕ → ℕ → ℕ → Answer
+walkBefore ms zero k q moves = record { number = 8; values = q ∷ [] }
+walkBefore ms (suc n) k q moves =
+    option (bestSuccessor ms q) (record { number = 8; values = q ∷ [] })
+    (λ b. if eqb k b || between q k b then accepted (b ∷ q ∷ moves ∷ []) else walkBefore ms n k b (suc moves))
+
+-- its answer to the call
+abbrev pub findBefore : List ℕ → ℕ → ℕ → Answer
+findBefore ws n k = answer (memberRefusal ws n) (walkBefore (membersIn ws) (length (membersIn ws)) k n 0)
+
+-- an answer without a fourth value
+abbrev pub three : Answer → Answer
+three a = record { number = a .number; values = take 3 (a .values) }
+
+walk-as-before : (ms : List Member) (fuel k q moves passed : ℕ) → three (lookupFrom ms fuel k q moves passed) ≡ walkBefore ms fuel k q moves
+walk-as-before ms zero k q moves passed = refl
+walk-as-before ms (suc fuel) k q moves passed = go (bestSuccessor ms q) (λ b. walk-as-before ms fuel k b (suc moves) sum)
+  where
+    sum : ℕ
+    sum = passed + passedBy ms (named ms q)
+
+    pick : (b : ℕ) (t : Bool) → three (lookupFrom ms fuel k b (suc moves) sum) ≡ walkBefore ms fuel k b (suc moves) →
+        three (if t then accepted (b ∷ q ∷ moves ∷ sum ∷ []) else lookupFrom ms fuel k b (suc moves) sum) ≡ (if t then accepted (b ∷ q ∷ moves ∷ []) else walkBefore ms fuel k b (suc moves))
+    pick b true i = refl
+    pick b false i = i
+
+    go : (o : Option ℕ) → ((b : ℕ) → three (lookupFrom ms fuel k b (suc moves) sum) ≡ walkBefore ms fuel k b (suc moves)) →
+        three (option o (record { number = 8; values = q ∷ [] }) (λ b. if eqb k b || between q k b then accepted (b ∷ q ∷ moves ∷ sum ∷ []) else lookupFrom ms fuel k b (suc moves) sum))
+        ≡ option o (record { number = 8; values = q ∷ [] }) (λ b. if eqb k b || between q k b then accepted (b ∷ q ∷ moves ∷ []) else walkBefore ms fuel k b (suc moves))
+    go none i = refl
+    go (some b) i = pick b (eqb k b || between q k b) (i b)
+
+-- find's number, owner, member and moves are what they were, on every table and from every identifier; 8's member too
+pub find-as-before : (ws : List ℕ) (n k : ℕ) → three (lookupAnswer ws n k) ≡ findBefore ws n k
+unfolding lookupAnswer
+find-as-before ws n k = go (memberRefusal ws n)
+  where
+    go : (c : ℕ) → three (answer c (lookup (membersIn ws) n k)) ≡ answer c (walkBefore (membersIn ws) (length (membersIn ws)) k n 0)
+    go zero = walk-as-before (membersIn ws) (length (membersIn ws)) k n 0 0
+    go (suc c) = refl
+
+-- On an ideal table
+
+nothing-added : (ms ns : List Member) → ((m : Member) → In m ns → passedBy ms m ≡ 0) → sum (map (passedBy ms) ns) ≡ 0
+nothing-added ms [] f = refl
+nothing-added ms (m ∷ ns) f = omega (arith, f m (here refl), nothing-added ms ns (λ v i. f v (there i)))
+
+-- no member passes anything over
+pub ideal-passes-none : (ws : List ℕ) → wellFormed ws ≡ true → ideal (tableOf ws) ≡ true → passedByAll (membersIn ws) ≡ 0
+ideal-passes-none ws wf h = nothing-added (membersIn ws) (membersIn ws) (λ m i. ap (λ (s : Search). s .passed) (ideal-found space (tableOf ws) (wellFormed-facts ws wf .table) h i))
+
+no-rounds : (limit : ℕ) (T : Table) → verdict T ≡ 2 → roundsRun space limit T ≡ 0
+no-rounds zero T e = refl
+no-rounds (suc limit) T e = rw e
+
+-- so settle's third value is 0, as its first is
+pub ideal-settle : (ws : List ℕ) → wellFormed ws ≡ true → sound (tableOf ws) ≡ true → ideal (tableOf ws) ≡ true → (limit : ℕ) → settleAnswer ws limit ≡ accepted (0 ∷ 2 ∷ 0 ∷ [])
+unfolding settleAnswer
+ideal-settle ws wf so h limit = let v = sym (verdict-ideal (tableOf ws) so h) in rw (settle-accepts ws wf so, no-rounds limit (tableOf ws) v, v, ideal-passes-none ws wf h)
+
+module _ (ws : List ℕ) (wf : wellFormed ws ≡ true) (h : ideal (tableOf ws) ≡ true) where
+  abbrev ms : List Member
+  ms = membersIn ws
+
+  none-at : (q : ℕ) → In q (ids ms) → passedBy ms (named ms q) ≡ 0
+  none-at q i = ap (λ (s : Search). s .passed) (ideal-found space (tableOf ws) (wellFormed-facts ws wf .table) h (found ms i .0))
+
+  none-on : (k q : ℕ) → In q (ids ms) → passedOn ms k q ≡ 0
+  none-on zero q i = none-at q i
+  none-on (suc k) q i = go (bestSuccessor ms q) refl (none-on k)
+    where
+      go : (o : Option ℕ) → bestSuccessor ms q ≡ o → ((y : ℕ) → In y (ids ms) → passedOn ms k y ≡ 0) → passedBy ms (named ms q) + option o 0 (λ y. passedOn ms k y) ≡ 0
+      go none e f = omega (arith, none-at q i)
+      go (some y) e f = omega (arith, none-at q i, f y (firstLive-in ms (named ms q .successors) e .0))
+
+  -- whatever find answers, from every member and for every key, its fourth value is 0
+  pub ideal-find-passes-none : (n k owner : ℕ) → live ms n ≡ true → (f : Finds ws n k owner) → f .passed ≡ 0
+  ideal-find-passes-none n k owner l f = go (lookupAnswer-answers ws n k (member-accepts ws n wf l))
+    where
+      go : Answered ms n k (lookupAnswer ws n k) → f .passed ≡ 0
+      go (inl o) = ap (λ (a : Answer). getD (a .values) 3 0) (sym (f .answer) ∙ o .answer) ∙ (o .added ∙ none-on (o .moves) n (live-in ms n l))
+      go (inr c) = absurd (omega (arith, ap (λ (a : Answer). a .number) (sym (f .answer) ∙ c .answer)))
