@@ -29,6 +29,7 @@ pub enum Call {
     Leave7,
     LeaveOk,
     Lookup,
+    LookupDead,
     Audit(Lists),
     /// The audit, on the Rust side with the principals counted one by one.
     AuditEarly(Lists),
@@ -66,6 +67,7 @@ pub const CALLS: &[(&str, Call)] = &[
     ("leave-refused-7", Call::Leave7),
     ("leave-accepted", Call::LeaveOk),
     ("lookup-255-moves", Call::Lookup),
+    ("lookup-dead", Call::LookupDead),
     ("audit", Call::Audit(Lists::Settled)),
     ("audit-late", Call::Audit(Lists::Late)),
     ("audit-half", Call::Audit(Lists::Half)),
@@ -151,6 +153,7 @@ impl Case {
             Call::Audit(lists) | Call::AuditEarly(lists) => lists,
             #[cfg(feature = "whole")]
             Call::Settle(lists) => lists,
+            Call::LookupDead => Lists::Lost,
             _ => Lists::Settled,
         };
         let mut table = table(lists, r, &ids);
@@ -212,7 +215,12 @@ impl Case {
             Call::LeaveOk => answer(0, [n - 1]),
             Call::Lookup => {
                 y = x;
-                answer(0, [x, ids[99], n - 1])
+                answer(0, [x, ids[99], n - 1, 0])
+            }
+            Call::LookupDead => {
+                // Each of the members that are left passes one over.
+                y = x;
+                answer(0, [x, ids[98], n / 2 - 1, n / 2])
             }
             Call::Audit(lists) | Call::AuditEarly(lists) => match lists {
                 Lists::Settled => answer(0, [n, n, n, 2]),
@@ -246,7 +254,11 @@ impl Case {
             Call::Settle(_) => {
                 x = u32::MAX;
                 let told = same::settle(&mut table.clone(), x);
-                assert_eq!((told.number, told.values[1]), (0, 2));
+                let passed = if lists == Lists::Lost { n / 2 } else { 0 };
+                assert_eq!(
+                    (told.number, told.values[1..3].to_vec()),
+                    (0, vec![2, passed])
+                );
                 told
             }
             #[cfg(feature = "whole")]
@@ -333,7 +345,7 @@ macro_rules! runner {
                     table.copy_from_slice(black_box(other));
                     answer
                 }),
-                Call::Lookup => {
+                Call::Lookup | Call::LookupDead => {
                     repeat!($side::lookup(black_box(table), black_box(x), black_box(y)))
                 }
                 Call::Audit(_) => repeat!($side::audit(black_box(table))),

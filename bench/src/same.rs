@@ -234,13 +234,19 @@ impl<'a> Table<'a> {
         self.search(x).ok()
     }
 
-    /// The place of the first live entry of the list at place k, looked for first at the next place.
+    /// The place of the first live entry of the list at place k, looked for first at the next place, and how many entries stand
+    /// before that one.
+    #[inline]
+    fn best(&self, k: usize) -> Option<(usize, u32)> {
+        (0..).zip(&self.record(k)[4..]).find_map(|(passed, &x)| {
+            let place = self.rank_from(k + 1, x);
+            self.stands_at(place, x).then_some((place, passed))
+        })
+    }
+
     #[inline]
     fn best_place(&self, k: usize) -> Option<usize> {
-        self.record(k)[4..].iter().find_map(|&x| {
-            let place = self.rank_from(k + 1, x);
-            self.stands_at(place, x).then_some(place)
-        })
+        self.best(k).map(|(place, _)| place)
     }
 
     /// The places of all best successors; the member count where there is none.
@@ -250,6 +256,19 @@ impl<'a> Table<'a> {
             *place = self.best_place(k).unwrap_or(self.members) as u16;
         }
         places
+    }
+
+    /// The same places, and how many entries all searches passed over.
+    #[cfg(feature = "whole")]
+    fn best_places_and_passed(&self) -> ([u16; MEMBERS_MOST], u32) {
+        let mut places = [0; MEMBERS_MOST];
+        let mut all = 0;
+        for (k, to) in places[..self.members].iter_mut().enumerate() {
+            let (place, passed) = self.best(k).unwrap_or((self.members, self.r as u32));
+            *to = place as u16;
+            all += passed;
+        }
+        (places, all)
     }
 
     /// By place, how far the ranges of members reach that some list skips from there on.

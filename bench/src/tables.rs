@@ -1,4 +1,4 @@
-//! The tables that calls are measured on: settled, settled but for one entry, half settled, with random lists, or to be settled.
+//! The tables that calls are measured on: settled, settled but for one entry, half settled, with random lists, with dead entries, or to be settled.
 
 use crate::same::{self, answer};
 
@@ -17,7 +17,6 @@ pub enum Lists {
     /// Each r different members, not its own, by a fixed generator.
     Random,
     /// Each second member was lost, and no step was made since.
-    #[cfg(feature = "whole")]
     Lost,
     /// The lowest r + 1 members settled; all the others have joined by the highest of them, and no step was made since.
     #[cfg(feature = "whole")]
@@ -57,7 +56,6 @@ pub fn table(lists: Lists, r: u32, ids: &[u32]) -> Vec<u32> {
                 assert_eq!(same::join(&mut table, pair[1], pair[0]).number, 0);
             }
         }
-        #[cfg(feature = "whole")]
         Lists::Lost => {
             make(ids);
             for pair in ids.chunks_exact(2) {

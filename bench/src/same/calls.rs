@@ -186,15 +186,17 @@ pub fn lookup(words: &[u32], n: u32, k: u32) -> Answer {
         return declined(3);
     };
     let mut at = start;
+    let mut passed = 0;
     for moves in 0..t.members as u32 {
         let q = t.id(at);
-        let Some(next) = t.best_place(at) else {
+        let Some((next, over)) = t.best(at) else {
             return answer(8, [q]);
         };
         at = next;
+        passed += over;
         let b = t.id(at);
         if k == b || between(q, k, b) {
-            return reply([b, q, moves]);
+            return reply([b, q, moves, passed]);
         }
     }
     answer(8, [t.id(at)])

@@ -12,17 +12,20 @@ struct Shape {
 }
 
 impl Shape {
-    /// The shape of the table in the words, or the number that declines a round.
-    fn of_sound(words: &[u32]) -> Result<Shape, u32> {
+    /// The shape of the table in the words, and how many entries the searches of its members pass over; or the number that
+    /// declines a round.
+    fn of_sound(words: &[u32]) -> Result<(Shape, u32), u32> {
         let t = Table::open(words).ok_or(1u32)?;
-        if !t.is_sound(&t.best_places()[..t.members], t.count_principals()) {
+        let (best, passed) = t.best_places_and_passed();
+        if !t.is_sound(&best[..t.members], t.count_principals()) {
             return Err(14);
         }
-        Ok(Shape {
+        let shape = Shape {
             r: t.r,
             members: t.members,
             width: t.width,
-        })
+        };
+        Ok((shape, passed))
     }
 
     #[inline(always)]
@@ -71,7 +74,7 @@ impl Shape {
 #[inline(never)]
 pub fn round(words: &mut [u32]) -> Answer {
     let shape = match Shape::of_sound(words) {
-        Ok(shape) => shape,
+        Ok((shape, _)) => shape,
         Err(number) => return declined(number),
     };
     shape.round(words);
@@ -80,8 +83,8 @@ pub fn round(words: &mut [u32]) -> Answer {
 
 #[inline(never)]
 pub fn settle(words: &mut [u32], limit: u32) -> Answer {
-    let shape = match Shape::of_sound(words) {
-        Ok(shape) => shape,
+    let (shape, passed) = match Shape::of_sound(words) {
+        Ok(sound) => sound,
         Err(number) => return declined(number),
     };
     let mut rounds = 0;
@@ -91,5 +94,5 @@ pub fn settle(words: &mut [u32], limit: u32) -> Answer {
         rounds += 1;
         ideal = shape.is_ideal(words);
     }
-    reply([rounds, 1 + u32::from(ideal)])
+    reply([rounds, 1 + u32::from(ideal), passed])
 }

@@ -19,6 +19,7 @@ use Rattle.model.specs.Settle.{roundsRun}
 use Rattle.model.specs.Refusals.{memberRefusal}
 use Rattle.model.specs.Calls.{lookupAnswer, settleAnswer}
 use Rattle.laws.specs.Lists.{In, here, there, found, live-in}
+use Rattle.laws.specs.Searches.{first-next}
 use Rattle.laws.specs.Accepted.{member-accepts, settle-accepts}
 use Rattle.laws.specs.Tables.{wellFormed-facts}
 use Rattle.laws.specs.Verdicts.{verdict-ideal}
@@ -61,11 +62,15 @@ search-tells ms (x ∷ l) = go (live ms x) refl (search-tells ms l)
 
 -- Find as it was before the request
 
--- document 01's walk, with three values
+-- document 01's first live entry, and its walk, with three values
+abbrev pub firstBefore : List Member → List ℕ → Option ℕ
+firstBefore ms [] = none
+firstBefore ms (x ∷ l) = if live ms x then some x else firstBefore ms l
+
 abbrev pub walkBefore : List Member → ℕ → ℕ → ℕ → ℕ → Answer
 walkBefore ms zero k q moves = record { number = 8; values = q ∷ [] }
 walkBefore ms (suc n) k q moves =
-    option (bestSuccessor ms q) (record { number = 8; values = q ∷ [] })
+    option (firstBefore ms (named ms q .successors)) (record { number = 8; values = q ∷ [] })
     (λ b. if eqb k b || between q k b then accepted (b ∷ q ∷ moves ∷ []) else walkBefore ms n k b (suc moves))
 
 -- its answer to the call
@@ -76,9 +81,14 @@ findBefore ws n k = answer (memberRefusal ws n) (walkBefore (membersIn ws) (leng
 abbrev pub three : Answer → Answer
 three a = record { number = a .number; values = take 3 (a .values) }
 
+-- the first live entry is what it was, and so is every best successor
+pub first-as-before : (ms : List Member) (l : List ℕ) → firstLive ms l ≡ firstBefore ms l
+first-as-before ms [] = refl
+first-as-before ms (x ∷ l) = first-next ms x l ∙ ap (λ (o : Option ℕ). if live ms x then some x else o) (first-as-before ms l)
+
 walk-as-before : (ms : List Member) (fuel k q moves passed : ℕ) → three (lookupFrom ms fuel k q moves passed) ≡ walkBefore ms fuel k q moves
 walk-as-before ms zero k q moves passed = refl
-walk-as-before ms (suc fuel) k q moves passed = go (bestSuccessor ms q) (λ b. walk-as-before ms fuel k b (suc moves) sum)
+walk-as-before ms (suc fuel) k q moves passed = rw (← first-as-before ms (named ms q .successors)) (go (bestSuccessor ms q) (λ b. walk-as-before ms fuel k b (suc moves) sum))
   where
     sum : ℕ
     sum = passed + passedBy ms (named ms q)

@@ -2,11 +2,13 @@
 //! Answers and whole buffers, guards too, must be equal afterwards.
 
 mod alone;
+mod find;
 mod ideal;
 mod join;
 mod lent;
 mod lone;
 mod parts;
+mod passed;
 mod principal;
 mod settle;
 mod shapes;
@@ -17,11 +19,13 @@ use crate::calls::{Calls, REFERENCE};
 use crate::random::mix;
 use crate::reference::{Answer, Runs};
 use alone::Alone;
+use find::Finds;
 use ideal::Ideals;
 use join::Joins;
 use lent::{nothing, Lent};
 pub use lent::{Element, Piece};
 use parts::Parts;
+use passed::Passed;
 use principal::Principals;
 use settle::Settles;
 use std::sync::atomic::{AtomicUsize, Ordering};
@@ -154,6 +158,8 @@ pub struct Compare {
     withdrawals: Withdrawals,
     settles: Settles,
     turns: Turns,
+    finds: Finds,
+    passed: Passed,
     /// Tells each call on standard error before it is made.
     pub trace: bool,
 }
@@ -181,6 +187,8 @@ impl Compare {
             withdrawals: Withdrawals::new(),
             settles: Settles::new(),
             turns: Turns::new(),
+            finds: Finds::new(),
+            passed: Passed::new(),
             trace: false,
         }
     }
@@ -205,7 +213,9 @@ impl Compare {
         text += &format!("  alone: {}\n", self.alone.told());
         text += &format!("  withdrawals: {}\n", self.withdrawals.told());
         text += &format!("  settle: {}\n", self.settles.told());
-        text + &format!("  turns: {}\n", self.turns.told())
+        text += &format!("  turns: {}\n", self.turns.told());
+        text += &format!("  find: {}\n", self.finds.told());
+        text + &format!("  passed: {}\n", self.passed.told())
     }
 
     /// A call with a number that it can give but never gave, or a shape that
@@ -227,9 +237,12 @@ impl Compare {
             ("withdrawals:", self.withdrawals.never_met()),
             ("settle:", self.settles.never_met()),
             ("turns:", self.turns.never_met()),
+            ("find:", self.finds.never_met()),
+            ("passed:", self.passed.never_met()),
         ];
         let never = |(what, shape): &(_, Option<_>)| shape.map(|shape| format!("{what} {shape}"));
-        shapes.iter().find_map(never).or(self.ideals.kinds_never_met())
+        let kinds = || self.ideals.kinds_never_met().or(self.finds.kinds_never_met());
+        shapes.iter().find_map(never).or_else(kinds)
     }
 
     /// Sorts an answer by its number, and a few by their reply too.
@@ -345,12 +358,6 @@ impl Compare {
 
     pub fn leave(&mut self, table: &Piece<u32>, n: u32) -> Result<Outcome<u32, u32>> {
         self.on_table("leave", &[n as u64], table, &nothing(), |c, t, _| (c.leave)(t, n))
-    }
-
-    pub fn lookup(&mut self, table: &Piece<u32>, n: u32, k: u32) -> Result<Outcome<u32, u32>> {
-        self.on_table("lookup", &[n as u64, k as u64], table, &nothing(), |c, t, _| {
-            (c.lookup)(t, n, k)
-        })
     }
 
     pub fn held(

@@ -3,7 +3,7 @@
 
 mod sound;
 
-pub use sound::{slowest, sound, Ring};
+pub use sound::{cut_off, slowest, sound, stale, stalest, Ring};
 
 use crate::compare::Piece;
 use crate::random::Random;

@@ -207,9 +207,19 @@ impl Table {
         self.place(entry).is_some()
     }
 
+    /// "The search for a first live entry now tells how many entries it passed over."
+    fn search(&self, member: &Member) -> Option<(u32, u32)> {
+        for (passed, &entry) in (0..).zip(&member.list) {
+            if self.is_live(entry) {
+                return Some((entry, passed));
+            }
+        }
+        None
+    }
+
     /// "a move going to the first live entry"
     fn first_live(&self, member: &Member) -> Option<u32> {
-        member.list.iter().copied().find(|&e| self.is_live(e))
+        self.search(member).map(|(entry, _)| entry)
     }
 
     /// "no two neighbouring entries (a, b) in any member's extended list have

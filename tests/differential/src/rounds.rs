@@ -1,6 +1,7 @@
 //! The rounds of the differential test. Each has its own seed, so a round that
 //! finds a difference can be run again alone.
 
+mod find;
 mod held;
 mod ideal;
 mod images;
@@ -9,6 +10,7 @@ mod others;
 mod principal;
 mod settle;
 
+use find::{find, full_find};
 use held::{held, held_calls};
 use ideal::{full_ideal, ideal};
 use images::{image, read_image};
@@ -27,7 +29,7 @@ type Result = std::result::Result<(), String>;
 type Round = fn(&mut Compare, &mut Random) -> Result;
 
 /// The kinds of rounds in turn.
-const KINDS: [(&str, Round); 20] = [
+const KINDS: [(&str, Round); 21] = [
     ("tiny", tiny),
     ("sound churn", sound_churn),
     ("broken", broken),
@@ -48,6 +50,7 @@ const KINDS: [(&str, Round); 20] = [
     ("join", join),
     ("ideal", ideal),
     ("settle", settling),
+    ("find", find),
 ];
 
 /// Runs one round; the error tells what differs and how to see it again.
@@ -60,6 +63,7 @@ pub fn round(compare: &mut Compare, seed: u64, number: u64) -> Result {
         turn if turn % (4 * kinds) == 15 => ("full", full as Round),
         turn if turn % (8 * kinds) == 18 => ("full ideal", full_ideal as Round),
         19 => ("full settle", full_settling as Round),
+        turn if turn % (8 * kinds) == 20 => ("full find", full_find as Round),
         turn => KINDS[turn % kinds],
     };
     run(compare, &mut random)
@@ -71,7 +75,8 @@ pub fn alone(compare: &mut Compare, seed: u64, number: u64) -> Result {
     let mut random = Random::new(mix(seed).wrapping_add(mix(number)));
     compare.alone(&mut random)?;
     compare.withdrawals(&mut random, false)?;
-    compare.turns(&mut random, number % 200 == 7)
+    compare.turns(&mut random, number % 200 == 7)?;
+    compare.passed(&mut random, number % 25 == 9)
 }
 
 /// Lengths near the needed one.

@@ -8,6 +8,7 @@ mod held;
 mod ideal;
 mod image;
 mod join;
+mod passed;
 mod principal;
 mod settle;
 

@@ -85,8 +85,7 @@ fn call(table: &mut [u32], calls: &Calls, word: &str, numbers: &[u32]) -> String
             _ => format!("done {}", v[1]),
         },
         "rect" => (if v[0] == 1 { "new" } else { "same" }).to_string(),
-        "find" => format!("{} {} {}", v[0], v[1], v[2]),
-        "audit" => format!("{} {} {} {}", v[0], v[1], v[2], v[3]),
+        "find" | "audit" => format!("{} {} {} {}", v[0], v[1], v[2], v[3]),
         _ => v[0].to_string(),
     };
     format!("{word} ok {fields}")

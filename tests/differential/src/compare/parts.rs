@@ -1,8 +1,8 @@
 //! What the members of one table must answer together: their runs part every
 //! rising list of keys, each key lies in a run of its holder, and where the
-//! verdict is 2, find gives the holder as owner from every start; as many are
-//! principals as the audit counts. The answers are the library's; who holds a
-//! key is told by the paper's sentence.
+//! verdict is 2, find gives the holder as owner from every start and passes over
+//! nothing; as many are principals as the audit counts. The answers are the library's;
+//! who holds a key is told by the paper's sentence.
 
 use super::shapes::Shapes;
 use super::{place, watched, Compare, Lent, Piece, Result};
@@ -72,14 +72,15 @@ impl Compare {
         format!(
             "keys parted on {} tables, {} owners found; principals counted on {} tables; \
              {} runs of the library alone; {} withdrawals from verdict 2; {} rounds held to \
-             their turns, {} settlings to their rounds",
+             their turns, {} settlings to their rounds; {} finds to the searches of their members",
             self.parts.tables,
             self.parts.finds,
             self.principals.tables,
             self.alone.runs,
             self.withdrawals.made,
             self.turns.rounds,
-            self.turns.settlings
+            self.turns.settlings,
+            self.passed.finds
         )
     }
 
@@ -145,7 +146,8 @@ impl Compare {
                     let found = watched(place("lookup"), || {
                         (self.under_test.lookup)(table.slice(), start, key)
                     });
-                    if found.number != 0 || found.values[0] != holder {
+                    let passed = found.values[3];
+                    if (found.number, found.count, found.values[0], passed) != (0, 4, holder, 0) {
                         let what = format!(
                             "{holder} holds {key}, and from {start} is found {:?}",
                             found.values

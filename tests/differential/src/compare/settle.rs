@@ -1,6 +1,7 @@
 //! Rounds and settle: one call on both sides, and what a run must meet of them, read off
 //! the words before and after.
 
+use super::find::first_live;
 use super::join::{is_member, records};
 use super::shapes::Shapes;
 use super::{nothing, Compare, Outcome, Piece, Result};
@@ -42,12 +43,33 @@ const SHAPES: [&str; 31] = [
     "255 rounds",
 ];
 
+/// What a settle must meet of the dead entries that its members pass over as it begins.
+const PASSED: [&str; 16] = [
+    "limit 0, some",
+    "limit 0 with verdict 1, none",
+    "verdict 2, none",
+    "rounds run, some",
+    "rounds run, none, dead entries after live ones",
+    "rounds run, some, dead entries after live ones too",
+    "the limit reached with verdict 1, some",
+    "the lowest member's alone",
+    "the highest member's alone",
+    "one member's alone, r - 1 of r = 8",
+    "each member's",
+    "each member's, r - 1",
+    "a pending member's",
+    "those of a member that is no one's first live entry",
+    "more than 255",
+    "1792",
+];
+
 /// Of tables with more members than this is not asked what they lack.
 const MANY: usize = 40;
 
 /// The calls so far.
 pub struct Settles {
     shapes: Shapes<{ SHAPES.len() }>,
+    passed: Shapes<{ PASSED.len() }>,
 }
 
 /// What a table lacks to be sound: live entries, principals, candidates inside.
@@ -60,15 +82,51 @@ fn lacks(words: &[u32]) -> [bool; 3] {
 
 impl Settles {
     pub fn new() -> Settles {
-        Settles { shapes: Shapes::new(SHAPES) }
+        Settles { shapes: Shapes::new(SHAPES), passed: Shapes::new(PASSED) }
     }
 
     pub fn never_met(&self) -> Option<&'static str> {
-        self.shapes.never_met()
+        self.shapes.never_met().or(self.passed.never_met())
     }
 
     pub fn told(&self) -> String {
-        self.shapes.told()
+        format!("{}; passed: {}", self.shapes.told(), self.passed.told())
+    }
+
+    /// Counts an accepted settle by what its members pass over.
+    fn count_passed(&mut self, table: &[u32], limit: u32, [ran, verdict, ..]: [u32; 4]) {
+        let firsts: Vec<(&[u32], usize)> =
+            records(table).map(|m| (m, first_live(table, &m[4..]).unwrap_or(0))).collect();
+        let each = || firsts.iter().map(|first| first.1);
+        let (n, r) = (firsts.len(), table[0] as usize);
+        let sum: usize = each().sum();
+        let passing = each().filter(|&count| count > 0).count();
+        let some = sum > 0;
+        let late = |&(m, first): &(&[u32], usize)| {
+            m[4 + first..].iter().any(|&entry| !is_member(table, entry))
+        };
+        let late = ran > 0 && n <= MANY && firsts.iter().any(late);
+        let named = |id: u32| firsts.iter().any(|&(m, first)| m[4 + first] == id);
+        let pending = firsts.iter().any(|&(m, first)| first > 0 && m[2] == 1);
+        let unnamed = firsts.iter().any(|&(m, first)| first > 0 && !named(m[0]));
+        self.passed.count([
+            limit == 0 && some,
+            limit == 0 && verdict == 1 && !some,
+            ran == 0 && verdict == 2 && !some,
+            ran > 0 && some,
+            late && !some,
+            late && some,
+            limit > 0 && ran == limit && verdict == 1 && some,
+            passing == 1 && firsts[0].1 > 0,
+            passing == 1 && firsts[n - 1].1 > 0,
+            passing == 1 && sum == 7,
+            passing == n,
+            r > 1 && each().all(|count| count == r - 1),
+            pending,
+            unnamed,
+            sum > 255,
+            sum == 1792,
+        ]);
     }
 
     /// Counts a round, which has no limit, or a settle.
@@ -156,6 +214,9 @@ impl Compare {
             (c.settle)(t, limit)
         })?;
         self.settles.count(table.slice(), Some(limit), &outcome.answer, &outcome.first);
+        if outcome.answer.number == 0 {
+            self.settles.count_passed(table.slice(), limit, outcome.answer.values);
+        }
         Ok(outcome)
     }
 }

@@ -2,7 +2,8 @@
 //! principals by its audit.
 //! - A round is the turns of the members by stabilize and rectify calls, by rising
 //!   identifier, and replies the verdict that the audit then gives.
-//! - Settle with a limit is as many single rounds, with the verdict looked at before each.
+//! - Settle with a limit is as many single rounds, with the verdict looked at before each;
+//!   its third number is what all members pass over before the first, as finds tell it.
 //! - The limit s - 1 brings verdict 2, in at most s - P + r rounds.
 //! - After s - P + r rounds the verdict is 2, nothing is pending, and a round more changes
 //!   word 2 only, by one step a member.
@@ -12,7 +13,7 @@
 use super::join::{is_member, record, records};
 use super::lone::Lone;
 use super::shapes::Shapes;
-use super::{Compare, Result};
+use super::{passed, Compare, Result};
 use crate::make;
 use crate::random::Random;
 use crate::reference::Answer;
@@ -172,15 +173,21 @@ impl Turns {
         Ok(states)
     }
 
-    /// Settle with a limit: the rounds run and the verdict; the table must be the one that
-    /// stands after as many.
-    fn settling(&mut self, start: &Lone, limit: u32, states: &[(Lone, u32)]) -> Result<u32> {
+    /// Settle with a limit: the rounds run, the verdict and what was passed over; the table
+    /// must be the one that stands after as many.
+    fn settling(
+        &mut self,
+        start: &Lone,
+        limit: u32,
+        states: &[(Lone, u32)],
+        passed: u32,
+    ) -> Result<u32> {
         let mut table = start.clone();
         let said = table.call("settle", &[limit], |c, t| (c.settle)(t, limit));
         let ideal = states.iter().position(|state| state.1 == 2).unwrap_or(states.len() - 1);
         let ran = ideal.min(limit as usize);
-        let due = [ran as u32, states[ran].1, 0, 0];
-        if (said.number, said.count, said.values) != (0, 2, due) {
+        let due = [ran as u32, states[ran].1, passed, 0];
+        if (said.number, said.count, said.values) != (0, 3, due) {
             return start.wrong("settle", format!("{limit} is given {said:?}, not {due:?}"));
         }
         if !table.equals(&states[ran].0) {
@@ -220,8 +227,9 @@ impl Turns {
             let other = random.pick(&limits[2..]);
             limits = vec![s - 1, other, 256];
         }
+        let passed = passed::sum(&passed::searches(&mut start.clone())?);
         for limit in limits {
-            self.settling(&start, limit, &states)?;
+            self.settling(&start, limit, &states, passed)?;
         }
         let pending = records(start.words()).any(|m| m[2] == 1);
         self.meet(&[
@@ -295,6 +303,7 @@ impl Compare {
         self.turns.full += full as u64;
         let mut raw = match self.turns.full % 2 == 1 && full {
             true => make::slowest(random, r, n),
+            false if !full && random.one_in(8) => make::stalest(random, r, n),
             false => make::sound(random, r, n),
         };
         let table = make::with_room(random, &raw.words(), r + 4);

@@ -172,6 +172,90 @@ pub fn slowest(random: &mut Random, r: usize, n: usize) -> Raw {
     joined_by_one(random, &ring, r, 0)
 }
 
+/// A list of the next members with dead entries before, between and after them, as slots
+/// up from its member: a member at each eighth, dead identifiers at the others. One entry
+/// is a member, and none is skipped.
+fn stale_list(random: &mut Random, r: usize, style: usize) -> Vec<usize> {
+    let ahead = random.below(r);
+    let mut list: Vec<usize> = Vec::with_capacity(r);
+    for k in 0..r {
+        let dead = match style {
+            0 => k < ahead,
+            ALL_BUT_LAST => k + 1 < r,
+            2 => k % 2 == 0,
+            3 => k % 2 == 1,
+            4 => k > ahead,
+            _ => random.one_in(2),
+        };
+        let at = list.last().copied().unwrap_or(0);
+        let none = k + 1 == r && !list.iter().any(|slot| slot % 8 == 0);
+        list.push(if dead && at % 8 < 7 && !none { at + 1 } else { at - at % 8 + 8 });
+    }
+    list
+}
+
+/// The style of `stale_list` in which all entries but the last are dead.
+const ALL_BUT_LAST: usize = 1;
+
+/// A sound table of n members, n > r, all of them principals, with lists of this style, or
+/// ideal ones where it says none.
+fn stale_by(random: &mut Random, r: usize, n: usize, styles: &[Option<usize>]) -> Raw {
+    let all = Space::any(random, 8 * n).rising(random, 8 * n);
+    let first = random.below(8);
+    let slot = |at: usize| all[(first + at) % (8 * n)];
+    let mut raw = Raw { r: r as u32, count: n as u32, steps: step_count(random), records: vec![] };
+    for (i, style) in styles.iter().enumerate() {
+        let slots = match style {
+            Some(style) => stale_list(random, r, *style),
+            None => (1..=r).map(|k| 8 * k).collect(),
+        };
+        raw.records.push(Record {
+            id: slot(8 * i),
+            predecessor: slot(8 * (i + n - 1) + if random.one_in(3) { 7 } else { 0 }),
+            pending: 0,
+            candidate: 0,
+            list: slots.iter().map(|&at| slot(8 * i + at)).collect(),
+        });
+    }
+    if random.one_in(3) {
+        await_some(random, &mut raw);
+    }
+    raw
+}
+
+/// Such a table with dead entries in all lists, in some, or in that of one member alone.
+pub fn stale(random: &mut Random, r: usize, n: usize) -> Raw {
+    let style = random.pick(&[0, ALL_BUT_LAST, ALL_BUT_LAST, 2, 3, 4, 5, 5]);
+    let among = random.below(5);
+    let any = random.below(n);
+    let one = random.pick(&[0, n - 1, any]);
+    let some = |i: usize| match among {
+        0 => (i == one).then_some(if any % 2 == 0 { ALL_BUT_LAST } else { style }),
+        1 => random.one_in(3).then_some(style),
+        _ => Some(style),
+    };
+    let styles: Vec<Option<usize>> = (0..n).map(some).collect();
+    stale_by(random, r, n, &styles)
+}
+
+/// Such a table on which each member passes r - 1 entries over.
+pub fn stalest(random: &mut Random, r: usize, n: usize) -> Raw {
+    stale_by(random, r, n, &vec![Some(ALL_BUT_LAST); n])
+}
+
+/// One member or more are left without a live entry: their lists are of dead identifiers.
+pub fn cut_off(random: &mut Random, raw: &mut Raw) {
+    let ids: Vec<u32> = raw.records.iter().map(|m| m.id).collect();
+    for _ in 0..random.range(1, 2) {
+        let record = &mut raw.records[random.below(ids.len())];
+        for entry in &mut record.list {
+            while ids.binary_search(entry).is_ok() {
+                *entry = entry.wrapping_add(1);
+            }
+        }
+    }
+}
+
 /// Some members are made pending, with anything between them and their first entries.
 fn await_some(random: &mut Random, raw: &mut Raw) {
     let among = random.range(1, 3);
@@ -207,6 +291,7 @@ pub fn sound(random: &mut Random, r: usize, n: usize) -> Raw {
             }
             raw
         }
+        5 => stale(random, r, n),
         style => {
             // Neighbours, or any; r + 1, or some more.
             let first = random.below(n);

@@ -119,6 +119,8 @@ pub fn leave(table: &mut [u32], n: u32) -> Answer {
     put_without(table, t, place)
 }
 
+/// "Find adds these up over the members it stood at and replies the sum as one more
+/// number."
 pub fn lookup(table: &[u32], n: u32, k: u32) -> Answer {
     let Some(t) = Table::decode(table) else {
         return decline(1);
@@ -127,13 +129,15 @@ pub fn lookup(table: &[u32], n: u32, k: u32) -> Answer {
         return decline(3);
     };
     let mut moves = 0;
+    let mut passed = 0;
     loop {
         let q = at.identifier;
-        let Some(b) = t.first_live(at) else {
+        let Some((b, over)) = t.search(at) else {
             return answer(8, &[q]);
         };
+        passed += over;
         if k == b || between(q, k, b) {
-            return accept(&[b, q, moves]);
+            return accept(&[b, q, moves, passed]);
         }
         at = t.member(b).expect("a live entry names a member");
         moves += 1;
@@ -355,6 +359,37 @@ mod joins {
         assert_eq!(tried(&table, 1021, 1020), (decline(5), true));
         table[3 + 255 * 12 + 4] = u32::MAX;
         assert_eq!(tried(&table, 1021, 1020), (decline(13), true));
+    }
+}
+
+#[cfg(test)]
+mod finds {
+    use super::*;
+
+    #[test]
+    fn entries_passed() {
+        let mut table = [0; 66];
+        new(&mut table, 3, &[10, 20, 30, 40, 50, 60, 70, 80, 90]);
+        assert_eq!(lookup(&table, 10, 10), accept(&[10, 90, 8, 0]));
+        for gone in [30, 60, 70] {
+            fail(&mut table, gone);
+        }
+        // 20 passes 30 over, 50 two; 10's and 40's dead entries stand after live ones.
+        assert_eq!(lookup(&table, 20, 25), accept(&[40, 20, 0, 1]));
+        assert_eq!(lookup(&table, 20, 30), accept(&[40, 20, 0, 1]));
+        assert_eq!(lookup(&table, 10, 15), accept(&[20, 10, 0, 0]));
+        assert_eq!(lookup(&table, 10, 40), accept(&[40, 20, 1, 1]));
+        assert_eq!(lookup(&table, 10, 45), accept(&[50, 40, 2, 1]));
+        assert_eq!(lookup(&table, 10, 55), accept(&[80, 50, 3, 3]));
+        assert_eq!(lookup(&table, 10, 10), accept(&[10, 90, 5, 3]));
+        assert_eq!(lookup(&table, 80, 25), accept(&[40, 20, 3, 1]));
+        // 50 has no live entry left: 8 tells it alone.
+        fail(&mut table, 80);
+        assert_eq!(lookup(&table, 20, 55), answer(8, &[50]));
+        assert_eq!(lookup(&table, 20, 45), accept(&[50, 40, 1, 1]));
+        // One dead entry twice in a list is passed over twice.
+        let lone = [3, 1, 0, 7, 7, 0, 0, 5, 5, 7];
+        assert_eq!(lookup(&lone, 7, 5), accept(&[7, 7, 0, 2]));
     }
 }
 

@@ -87,6 +87,11 @@ impl Table {
         self.is_ideal() && self.is_sound()
     }
 
+    /// What the searches of all members pass over, on a table that is sound.
+    fn passed_by_all(&self) -> u32 {
+        self.members.iter().map(|m| self.search(m).expect("a live entry").1).sum()
+    }
+
     /// The verdict of a table that is sound.
     fn one_or_two(&self) -> u32 {
         assert!(self.is_sound(), "a round leaves a table that is not sound");
@@ -110,7 +115,8 @@ pub fn round(table: &mut [u32]) -> Answer {
 
 /// "Settle runs rounds until the verdict is 2 or a given limit is reached, and reports
 /// the rounds run and the verdict. The verdict is looked at before each round, so an
-/// ideal table gets none."
+/// ideal table gets none." "Settle's report gains the sum over all members of the table
+/// as it began."
 pub fn settle(table: &mut [u32], limit: u32) -> Answer {
     let Some(mut t) = Table::decode(table) else {
         return decline(1);
@@ -118,6 +124,7 @@ pub fn settle(table: &mut [u32], limit: u32) -> Answer {
     if !t.is_sound() {
         return decline(14);
     }
+    let passed = t.passed_by_all();
     let enough = 2 * t.members.len() * t.members.len() + t.r + 1;
     let mut rounds = 0;
     while !t.is_at_two() && rounds < limit {
@@ -126,7 +133,7 @@ pub fn settle(table: &mut [u32], limit: u32) -> Answer {
         rounds += 1;
     }
     t.put(table);
-    accept(&[rounds, t.one_or_two()])
+    accept(&[rounds, t.one_or_two(), passed])
 }
 
 #[cfg(test)]
@@ -150,9 +157,9 @@ pub(super) mod settled {
         let start = session();
         for (limit, told) in [(0, [0, 1]), (1, [1, 2]), (2, [1, 2]), (u32::MAX, [1, 2])] {
             let mut table = start;
-            assert_eq!(settle(&mut table, limit), accept(&told));
+            assert_eq!(settle(&mut table, limit), accept(&[told[0], told[1], 0]));
             assert_eq!(table == start, limit == 0);
-            assert_eq!(settle(&mut table, 0), accept(&[0, told[1]]));
+            assert_eq!(settle(&mut table, 0), accept(&[0, told[1], 0]));
         }
         // One step a member, and the step count stops.
         let mut table = start;
@@ -170,7 +177,7 @@ pub(super) mod settled {
         let mut table = [0; 27];
         new(&mut table, 2, &[10, 20, 30, 40]);
         (table[5], table[6]) = (1, 15);
-        assert_eq!(settle(&mut table, 9), accept(&[0, 2]));
+        assert_eq!(settle(&mut table, 9), accept(&[0, 2, 0]));
         assert_eq!(table[5], 1);
         fail(&mut table, 20);
         let before = table;
@@ -181,7 +188,23 @@ pub(super) mod settled {
         assert_eq!(table[9..15], [30, 10, 0, 0, 40, 10]);
         // The highest takes the list of the lowest, which had its turn before.
         assert_eq!(table[15..21], [40, 30, 0, 0, 10, 30]);
-        assert_eq!(settle(&mut table, 9), accept(&[0, 2]));
+        assert_eq!(settle(&mut table, 9), accept(&[0, 2, 0]));
+    }
+
+    #[test]
+    fn as_it_began() {
+        // 20 passes one entry over, 50 two, as they are before the first round.
+        let mut start = [0; 66];
+        new(&mut start, 3, &[10, 20, 30, 40, 50, 60, 70, 80, 90]);
+        for gone in [30, 60, 70] {
+            fail(&mut start, gone);
+        }
+        for (limit, told) in [(0, [0, 1]), (1, [1, 1]), (2, [2, 1]), (9, [3, 2])] {
+            let mut table = start;
+            assert_eq!(settle(&mut table, limit), accept(&[told[0], told[1], 3]));
+            let again = if limit == 0 { 3 } else { 0 };
+            assert_eq!(settle(&mut table, 0), accept(&[0, told[1], again]));
+        }
     }
 
     #[test]
@@ -208,7 +231,7 @@ pub(super) mod settled {
                 assert_eq!(join(&mut table, j, r).number, 0);
             }
             assert_eq!(audit(&table).values[..2], [20, r + 1]);
-            assert_eq!(settle(&mut table, u32::MAX), accept(&[19, 2]));
+            assert_eq!(settle(&mut table, u32::MAX), accept(&[19, 2, 0]));
         }
     }
 }

@@ -219,22 +219,23 @@ pub fn lookup(table: &[u32], n: u32, k: u32) -> Answer {
         return no(3);
     };
     if planted(Fault::FindOwnKey) && k == n {
-        return yes([n, n, 0]);
+        return yes([n, n, 0, 0]);
     }
+    // The members stood at, and then the one to go on to.
+    let mut walk = vec![start];
     let mut q = start;
-    for moves in 0..size(table) as u32 {
+    for _ in 0..size(table) {
         let next = if planted(Fault::FindFirstEntry) {
             find(table, list(table, q)[0])
         } else {
             first_live(table, q)
         };
         let Some(b) = next else {
-            let member = if planted(Fault::FindWrongEight) { start } else { q };
-            return Answer { number: 8, values: [id(table, member), 0, 0, 0], count: 1 };
+            return passed::eight(table, &walk);
         };
+        walk.push(b);
         if k == id(table, b) || between(id(table, q), k, id(table, b)) {
-            let moves = moves + planted(Fault::FindLastMove) as u32;
-            return yes([id(table, b), id(table, q), moves]);
+            return passed::found(table, &walk);
         }
         q = b;
     }

@@ -246,8 +246,13 @@ pub fn round(table: &mut [u32]) -> Answer {
         return refusal(number);
     }
     let before = if planted(Fault::RoundBefore) { verdict_of(table) } else { 0 };
+    let passed = if planted(Fault::RoundPassed) { passed::by_all(table) } else { 0 };
     run_round(table);
-    yes([if planted(Fault::RoundBefore) { before } else { verdict_of(table) }])
+    let verdict = if planted(Fault::RoundBefore) { before } else { verdict_of(table) };
+    if planted(Fault::RoundPassed) {
+        return yes([verdict, passed]);
+    }
+    yes([verdict])
 }
 
 /// The limit as a planted fault takes it.
@@ -282,6 +287,7 @@ pub fn settle(table: &mut [u32], limit: u32) -> Answer {
     if number != 0 {
         return refusal(number);
     }
+    let began = table.to_vec();
     let first = if planted(Fault::SettleVerdict) { verdict_of(table) } else { 0 };
     let most = taken(table, limit).min(ROUNDS);
     let mut rounds = 0;
@@ -316,8 +322,5 @@ pub fn settle(table: &mut [u32], limit: u32) -> Answer {
     if planted(Fault::SettleLooks) {
         rounds += 1;
     }
-    if planted(Fault::SettleSwapped) {
-        return yes([verdict, rounds]);
-    }
-    yes([rounds, verdict])
+    passed::settled([&began, table], limit, rounds, verdict)
 }
