@@ -234,33 +234,29 @@ impl<'a> Table<'a> {
         self.search(x).ok()
     }
 
-    /// The place of the first live entry of the list at place k, looked for first at the next place, and how many entries stand
-    /// before that one.
+    /// The same, looked for first at the place guessed.
+    #[inline]
+    fn place_from(&self, guess: usize, x: u32) -> Option<usize> {
+        if self.id(guess) == x {
+            Some(guess)
+        } else {
+            self.place(x)
+        }
+    }
+
+    /// The place of the first live entry of the list at place k, looked for first at the next place round, and how many entries
+    /// stand before that one.
     #[inline]
     fn best(&self, k: usize) -> Option<(usize, u32)> {
-        (0..).zip(&self.record(k)[4..]).find_map(|(passed, &x)| {
-            let place = self.rank_from(k + 1, x);
-            self.stands_at(place, x).then_some((place, passed))
-        })
+        let guess = if k + 1 < self.members { k + 1 } else { 0 };
+        (0..)
+            .zip(&self.record(k)[4..])
+            .find_map(|(passed, &x)| Some((self.place_from(guess, x)?, passed)))
     }
 
+    /// The places of all best successors, the member count where there is none, and how many entries all searches passed over.
     #[inline]
-    fn best_place(&self, k: usize) -> Option<usize> {
-        self.best(k).map(|(place, _)| place)
-    }
-
-    /// The places of all best successors; the member count where there is none.
-    fn best_places(&self) -> [u16; MEMBERS_MOST] {
-        let mut places = [0; MEMBERS_MOST];
-        for (k, place) in places[..self.members].iter_mut().enumerate() {
-            *place = self.best_place(k).unwrap_or(self.members) as u16;
-        }
-        places
-    }
-
-    /// The same places, and how many entries all searches passed over.
-    #[cfg(feature = "whole")]
-    fn best_places_and_passed(&self) -> ([u16; MEMBERS_MOST], u32) {
+    fn best_places(&self) -> ([u16; MEMBERS_MOST], u32) {
         let mut places = [0; MEMBERS_MOST];
         let mut all = 0;
         for (k, to) in places[..self.members].iter_mut().enumerate() {

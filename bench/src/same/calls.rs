@@ -167,7 +167,7 @@ pub fn leave(words: &mut [u32], n: u32) -> Answer {
         width,
         records: &copy[HEADER..end - width],
     };
-    if left.best_places()[..members].contains(&(members as u16)) {
+    if left.best_places().0[..members].contains(&(members as u16)) {
         return declined(6);
     }
     if left.count_principals() <= r {
@@ -186,20 +186,20 @@ pub fn lookup(words: &[u32], n: u32, k: u32) -> Answer {
         return declined(3);
     };
     let mut at = start;
+    let mut q = n;
     let mut passed = 0;
     for moves in 0..t.members as u32 {
-        let q = t.id(at);
         let Some((next, over)) = t.best(at) else {
             return answer(8, [q]);
         };
-        at = next;
+        let b = t.id(next);
         passed += over;
-        let b = t.id(at);
         if k == b || between(q, k, b) {
             return reply([b, q, moves, passed]);
         }
+        (at, q) = (next, b);
     }
-    answer(8, [t.id(at)])
+    answer(8, [q])
 }
 
 /// The audit, with its way to count the principals.
@@ -208,7 +208,7 @@ fn audit_by(words: &[u32], count: impl Fn(&Table) -> usize) -> Answer {
     let Some(t) = Table::open(words) else {
         return declined(1);
     };
-    let places = t.best_places();
+    let (places, _) = t.best_places();
     let best = &places[..t.members];
     let ring = count_of(&ring_bits(best)[..t.members], 1);
     let principals = count(&t);
@@ -333,7 +333,7 @@ mod whole {
         let Some(findings) = findings.get_mut(..t.members) else {
             return declined(10);
         };
-        let places = t.best_places();
+        let (places, _) = t.best_places();
         let best = &places[..t.members];
         let mut bits = ring_bits(best);
         let known = &mut bits[..t.members];

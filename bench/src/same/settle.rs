@@ -16,7 +16,7 @@ impl Shape {
     /// declines a round.
     fn of_sound(words: &[u32]) -> Result<(Shape, u32), u32> {
         let t = Table::open(words).ok_or(1u32)?;
-        let (best, passed) = t.best_places_and_passed();
+        let (best, passed) = t.best_places();
         if !t.is_sound(&best[..t.members], t.count_principals()) {
             return Err(14);
         }
