@@ -44,15 +44,15 @@
       ring_join         192
       ring_stabilize    320
       ring_rectify      192
-      ring_round       1792
-      ring_settle      1856
+      ring_round       1856
+      ring_settle      1920
       ring_fail         128
       ring_leave      14080
       ring_lookup       192
       ring_held         128
       ring_principal     64
       ring_audit       2816
-      ring_findings    3840
+      ring_findings    3328
       ring_alike        128
       ring_take_over     64
       ring_image_write  128

@@ -10,24 +10,25 @@ use lib.ListN.{getD}
 use Rattle.model.specs.Lists.{if_then_else_, option}
 use Rattle.model.specs.Identifier.{between}
 use Rattle.model.specs.Table.{Member, membersIn, ids}
-use Rattle.model.specs.Ring.{nobody, bestSuccessor}
+use Rattle.model.specs.Ring.{nobody, named, bestSuccessor, passedBy}
 use Rattle.model.specs.Answer.{Answer, accepted}
 use Rattle.model.specs.Steps.{lookup, lookupFrom}
 use Rattle.table.specs.Formed.{Formed}
-use Rattle.ring.specs.Places.{firstPlace}
-use Rattle.ring.proofs.Laws.{member-count, best, no-best}
+use Rattle.ring.specs.Places.{nextPlace}
+use Rattle.ring.proofs.Laws.{member-count, best, no-best, passed-here}
 
 -- the answer 8 at the member q
 abbrev stuckAt : ℕ → Answer
 stuckAt q = record { number = 8; values = q ∷ [] }
 
-move : (ms : List Member) (left k q moves : ℕ) → 0 < left → lookupFrom ms left k q moves ≡ option (bestSuccessor ms q) (stuckAt q) (λ b. if eqb k b || between q k b then accepted (b ∷ q ∷ moves ∷ []) else lookupFrom ms (left - 1) k b (suc moves))
-move ms zero k q moves h = absurd (omega arith)
-move ms (suc left) k q moves h = let e : suc left - 1 ≡ left = omega arith in rw e
+-- p entries are passed over at q
+move : (ms : List Member) (left k q moves passed p : ℕ) → 0 < left → passedBy ms (named ms q) ≡ p → lookupFrom ms left k q moves passed ≡ option (bestSuccessor ms q) (stuckAt q) (λ b. if eqb k b || between q k b then accepted (b ∷ q ∷ moves ∷ (passed + p) ∷ []) else lookupFrom ms (left - 1) k b (suc moves) (passed + p))
+move ms zero k q moves passed p h e = absurd (omega arith)
+move ms (suc left) k q moves passed p h e = let l : suc left - 1 ≡ left = omega arith in rw (l, ← e)
 
-pub walk-end : (ms : List Member) (left k q moves : ℕ) → left ≤ 0 → stuckAt q ≡ lookupFrom ms left k q moves
-walk-end ms zero k q moves h = refl
-walk-end ms (suc left) k q moves h = absurd (omega arith)
+nothing-left : (ms : List Member) (left k q moves passed : ℕ) → left ≤ 0 → stuckAt q ≡ lookupFrom ms left k q moves passed
+nothing-left ms zero k q moves passed h = refl
+nothing-left ms (suc left) k q moves passed h = absurd (omega arith)
 
 module _ (ws : List ℕ) where
   abbrev ms : List Member
@@ -36,28 +37,41 @@ module _ (ws : List ℕ) where
   abbrev idAt : ℕ → ℕ
   idAt k = getD (ids ms) k 0
 
-  pub walk-start : (x k : ℕ) → lookupFrom ms (getD ws 1 0) k x 0 ≡ lookup ms x k
-  walk-start x k = rw member-count
+  abbrev n : ℕ
+  n = getD ws 1 0
 
--- a turn of the walk: it stands at the place `at` of the member q, whose best successor is at the place `next`
-pub record Turn (ws : List ℕ) (at next q left : ℕ) : Type 0 where
-  pub formed : Formed ws
-  pub here : at < getD ws 1 0
-  pub id : q ≡ idAt ws at
-  pub next-place : next ≡ firstPlace (membersIn ws) (getD (membersIn ws) at nobody .successors)
-  pub some-left : 0 < left
+  -- the walk from q on, after so many moves and with so many entries passed over
+  abbrev pub onward : ℕ → ℕ → ℕ → ℕ → Answer
+  onward k q moves passed = lookupFrom ms (n - moves) k q moves passed
 
-module _ {ws : List ℕ} {at next q left : ℕ} (t : Turn ws at next q left) (k moves : ℕ) where
-  step : lookupFrom (membersIn ws) left k (idAt ws at) moves ≡ option (bestSuccessor (membersIn ws) (idAt ws at)) (stuckAt (idAt ws at)) (λ b. if eqb k b || between (idAt ws at) k b then accepted (b ∷ idAt ws at ∷ moves ∷ []) else lookupFrom (membersIn ws) (left - 1) k b (suc moves))
-  step = move (membersIn ws) left k (idAt ws at) moves (t .some-left)
+  pub walk-start : (x k : ℕ) → onward k x 0 0 ≡ lookup ms x k
+  walk-start x k = let l : n - 0 ≡ n = omega arith in rw (l, member-count)
 
-  pub walk-stuck : getD ws 1 0 ≤ next → stuckAt q ≡ lookupFrom (membersIn ws) left k (idAt ws at) moves
-  walk-stuck l = rw (t .id) (sym (step ∙ rw (no-best ws at next (t .here) (t .next-place) (t .formed) l)))
+  pub walk-end : (k q moves passed : ℕ) → n ≤ moves → stuckAt q ≡ onward k q moves passed
+  walk-end k q moves passed h = nothing-left ms (n - moves) k q moves passed (omega arith)
+
+  -- a turn of the walk: it stands at the place `at` of the member q, whose best successor is at the place `next` behind p entries
+  pub record Turn (at next q p moves : ℕ) : Type 0 where
+    pub formed : Formed ws
+    pub stands : at < n
+    pub id : q ≡ idAt at
+    pub next-place : next ≡ nextPlace ms at
+    pub behind : p ≡ passedBy ms (getD ms at nobody)
+    pub going : moves < n
+
+module _ {ws : List ℕ} {at next q p moves : ℕ} (t : Turn ws at next q p moves) (k passed : ℕ) where
+  step : onward ws k q moves passed ≡ option (bestSuccessor (ms ws) q) (stuckAt q) (λ b. if eqb k b || between q k b then accepted (b ∷ q ∷ moves ∷ (passed + p) ∷ []) else lookupFrom (ms ws) (n ws - moves - 1) k b (suc moves) (passed + p))
+  step = move (ms ws) (n ws - moves) k q moves passed p (omega (arith, t .going)) (rw (t .id) (passed-here ws at next (t .stands) (t .next-place) (t .formed) (t .behind)))
+
+  pub walk-stuck : n ws ≤ next → stuckAt q ≡ onward ws k q moves passed
+  walk-stuck l = sym (step ∙ rw (t .id, no-best ws at next (t .stands) (t .next-place) (t .formed) l))
 
   -- b is that successor
-  module _ (l : next < getD ws 1 0) {b : ℕ} (e : b ≡ idAt ws next) where
-    pub walk-owned : (eqb k b || between q k b) ≡ true → accepted (b ∷ q ∷ moves ∷ []) ≡ lookupFrom (membersIn ws) left k (idAt ws at) moves
-    walk-owned o = sym (step ∙ rw (best ws at next (t .here) (t .next-place) (t .formed) l, ← e, ← t .id, o))
+  module _ (l : next < n ws) {b : ℕ} (e : b ≡ idAt ws next) where
+    pub walk-owned : (eqb k b || between q k b) ≡ true → accepted (b ∷ q ∷ moves ∷ (passed + p) ∷ []) ≡ onward ws k q moves passed
+    walk-owned o = sym (step ∙ rw (t .id, best ws at next (t .stands) (t .next-place) (t .formed) l, ← e, ← t .id, o))
 
-    pub walk-on : (eqb k b || between q k b) ≡ false → lookupFrom (membersIn ws) (left - 1) k (idAt ws next) (moves + 1) ≡ lookupFrom (membersIn ws) left k (idAt ws at) moves
-    walk-on o = sym (step ∙ rw (best ws at next (t .here) (t .next-place) (t .formed) l, ← e, ← t .id, o, add-one))
+    pub walk-on : (eqb k b || between q k b) ≡ false → onward ws k b (moves + 1) (passed + p) ≡ onward ws k q moves passed
+    walk-on o =
+        let f : n ws - (moves + 1) ≡ n ws - moves - 1 = omega arith in
+        sym (step ∙ rw (t .id, best ws at next (t .stands) (t .next-place) (t .formed) l, ← e, ← t .id, o, f, add-one))

@@ -10,38 +10,39 @@ ghost use Rattle.owner.specs.Answers.{answerOf};
 use owner::Owner;
 use refusal::Standing;
 
-// The walk from the member at a place: its owner and where it was found, or the member without a live entry.
+// The walk from the member at a place: the owner of the key and where it was found, or the member without a live entry.
 fn walk(t: &[u32], start: usize, k: u32) -> Owner
     requires { ⌜ Formed (now t) ⌝ }
     requires { ⌜ start < getD (now t) 1 0 ⌝ }
     ensures { λ a. ⌜ answerOf a ≡ lookupOf (membersIn (now (t .entry))) (getD (ids (membersIn (now (t .entry)))) start 0) k ⌝ }
 {
-    let n = t[1] as usize;
+    let n = t[1];
     let mut at = start;
-    let mut left = n;
+    let mut q = ring::id_at(t, start);
     let mut moves: u32 = 0;
-    while 0 < left {
-        let q = ring::id_at(t, at);
-        let next = ring::best_place(t, at);
-        if n <= next {
+    let mut passed: u32 = 0;
+    while moves < n {
+        let s = ring::best_of(t, at);
+        at = s.place;
+        if n as usize <= at {
             return Owner::Stuck(q);
         }
-        let b = ring::id_at(t, next);
+        let b = ring::id_at(t, at);
+        passed += s.passed as u32;
         if k == b {
-            return Owner::Found(b, q, moves);
+            return Owner::Found(b, q, moves, passed);
         }
         if ident::between(q, k, b) {
-            return Owner::Found(b, q, moves);
+            return Owner::Found(b, q, moves, passed);
         }
-        at = next;
+        q = b;
         moves += 1;
-        left -= 1;
     }
     // Not reached: each move leaves fewer members on the way to the key, so the walk ends within n places (Lookup in `theory`).
-    Owner::Stuck(ring::id_at(t, at))
+    Owner::Stuck(q)
 }
 
-// Find key k from the member n: owner, the member it was found at and the moves; or 1 or 3; or 8 and the member stood at.
+// Find key k from the member n: owner, the member it was found at, the moves and the entries passed over; or 1 or 3; or 8 and the member stood at.
 pub fn lookup(t: &[u32], n: u32, k: u32) -> Owner
     ensures { λ a. ⌜ answerOf a ≡ lookupAnswer (now (t .entry)) n k ⌝ }
 {

@@ -8,7 +8,7 @@ use Rattle.owner.specs.declared.Owner.{Owner}
 use Rattle.owner.specs.declared.Owner.the-variants.{Found, Stuck, Declined}
 
 abbrev pub answerOf : Owner → Answer
-answerOf (Found b q moves) = accepted (b ∷ q ∷ moves ∷ [])
+answerOf (Found b q moves passed) = accepted (b ∷ q ∷ moves ∷ passed ∷ [])
 answerOf (Stuck q) = record { number = 8; values = q ∷ [] }
 answerOf (Declined k) = declined k
 
@@ -16,10 +16,10 @@ answerOf (Declined k) = declined k
 abbrev caseOf : ℕ → List ℕ → Owner
 caseOf k [] = Declined k
 caseOf k (q ∷ []) = Stuck q
-caseOf k (b ∷ q ∷ vs) = Found b q (getD vs 0 0)
+caseOf k (b ∷ q ∷ vs) = Found b q (getD vs 0 0) (getD vs 1 0)
 
 read-back : (a : Owner) → caseOf (answerOf a .number) (answerOf a .values) ≡ a
-read-back (Found b q moves) = refl
+read-back (Found b q moves passed) = refl
 read-back (Stuck q) = refl
 read-back (Declined k) = refl
 

@@ -5,8 +5,8 @@ use answer::Answer;
 
 // The owner of the key, or why none was found.
 pub enum Owner {
-    // the owner, the member it was found at, and the moves
-    Found(u32, u32, u32),
+    // the owner, the member it was found at, the moves, and the entries passed over
+    Found(u32, u32, u32, u32),
     // 8: find stands at a member without a live entry
     Stuck(u32),
     // any other number
@@ -18,10 +18,10 @@ pub fn numbers(a: Owner) -> Answer
     ensures { λ n. ⌜ Says n (answerOf a) ⌝ }
 {
     match a {
-        Owner::Found(b, q, moves) => Answer {
+        Owner::Found(b, q, moves, passed) => Answer {
             number: 0,
-            values: [b, q, moves, 0],
-            count: 3,
+            values: [b, q, moves, passed],
+            count: 4,
         },
         Owner::Stuck(q) => Answer {
             number: 8,

@@ -1,7 +1,7 @@
 -- Members by place: an identifier's place, the member there, its best successor, and one turn of each loop. Assumes nothing.
 use Prim.Native.Nat.{ℕ, zero, suc, _+_, _-_, _≤_, _<_}
 use mathlib.Core.Path.{_≡_, refl, sym, ap, _∙_}
-use mathlib.Core.List.{List, [], _∷_}
+use mathlib.Core.List.{List, [], _∷_, map}
 use mathlib.Core.Bool.{Bool, true, false, _&&_, _||_, false≢true}
 use mathlib.Core.Option.{some, none}
 use native.Mathlib.Nat.{le-of-suc-le-suc}
@@ -9,13 +9,14 @@ use native.Mathlib.Numerals.{add-one}
 use native.Mathlib.Omega.{arith}
 use borrow.Author.Tests.{eqb-true, eq-eqb, ne-eqb, lt-ltb, le-ltb}
 use lib.Dec.{ltb, eqb}
-use lib.ListN.{length, getD, drop, set, drop-of-length-le}
+use lib.ListN.{length, getD, drop, set, length-drop, drop-of-length-le}
 use lib.Seq.{drop-cons}
-use Rattle.model.specs.Lists.{if_then_else_, every, any, contains}
+use Rattle.model.specs.Lists.{if_then_else_, every, any, sum, contains}
 use Rattle.model.specs.Table.{Member, headerSize, membersIn, ids}
-use Rattle.model.specs.Ring.{live, nobody, named, hasLive, firstLive, bestSuccessor}
+use Rattle.model.specs.Ring.{past, searched, live, nobody, named, hasLive, firstLive, bestSuccessor, passedBy}
 use Rattle.laws.specs.Lists.{or-false, Rising, rising-true, above-in, above-rising, length-ids}
 use Rattle.laws.specs.Places.{place-in}
+use Rattle.laws.specs.Searches.{first-next}
 use Rattle.laws.specs.Words.{members-length}
 use Rattle.table.specs.Formed.{Formed}
 use Rattle.table.specs.Rank.{rank}
@@ -62,7 +63,7 @@ named-place (m ∷ ms) (suc k) a h =
 
 first-found : (ms : List Member) (l : List ℕ) → any (live ms) l ≡ true → (firstPlace ms l < length ms) × (firstLive ms l ≡ some (getD (ids ms) (firstPlace ms l) 0))
 first-found ms [] h = absurd (false≢true h)
-first-found ms (x ∷ l) h = go (live ms x) refl h (first-found ms l)
+first-found ms (x ∷ l) h = rw (first-next ms x l) (go (live ms x) refl h (first-found ms l))
   where
     go : (b : Bool) → live ms x ≡ b → (b || any (live ms) l) ≡ true → (any (live ms) l ≡ true → (firstPlace ms l < length ms) × (firstLive ms l ≡ some (getD (ids ms) (firstPlace ms l) 0))) → ((if b then placeOf (ids ms) x else firstPlace ms l) < length ms) × ((if b then some x else firstLive ms l) ≡ some (getD (ids ms) (if b then placeOf (ids ms) x else firstPlace ms l) 0))
     go true e k i = let w = place-found (ids ms) x e in (omega (arith, length-ids ms), ap some (sym (w .1)))
@@ -70,25 +71,25 @@ first-found ms (x ∷ l) h = go (live ms x) refl h (first-found ms l)
 
 first-none : (ms : List Member) (l : List ℕ) → any (live ms) l ≡ false → (firstPlace ms l ≡ length ms) × (firstLive ms l ≡ none)
 first-none ms [] h = (refl, refl)
-first-none ms (x ∷ l) h = let w = or-false (live ms x) (any (live ms) l) h in rw (w .0) (first-none ms l (w .1))
+first-none ms (x ∷ l) h = let w = or-false (live ms x) (any (live ms) l) h in rw (first-next ms x l, w .0) (first-none ms l (w .1))
 
--- the place j of a list's first entry settles it, or leaves the others
+-- the place j of a list's first entry settles the search, or it is passed over
 module _ (ms : List Member) (j : ℕ) where
-  first-entry : (p : List ℕ) → 0 < length p → j ≡ placeOf (ids ms) (getD p 0 0) → j < length ms → j ≡ firstPlace ms p
+  first-entry : (p : List ℕ) → 0 < length p → j ≡ placeOf (ids ms) (getD p 0 0) → j < length ms → (j ≡ firstPlace ms p) × (searched ms p .passed ≡ 0)
   first-entry [] h e l = absurd (omega arith)
   first-entry (x ∷ p) h e l = go (live ms x) refl
     where
-      go : (b : Bool) → live ms x ≡ b → j ≡ (if b then placeOf (ids ms) x else firstPlace ms p)
-      go true t = e
+      go : (b : Bool) → live ms x ≡ b → (j ≡ (if b then placeOf (ids ms) x else firstPlace ms p)) × ((if b then record { entry = some x; passed = 0 } else past (searched ms p)) .passed ≡ 0)
+      go true t = (e, refl)
       go false t = absurd (omega (arith, place-none (ids ms) x t, length-ids ms))
 
-  later-entry : (p : List ℕ) → 0 < length p → j ≡ placeOf (ids ms) (getD p 0 0) → length ms ≤ j → firstPlace ms (drop 1 p) ≡ firstPlace ms p
+  later-entry : (p : List ℕ) → 0 < length p → j ≡ placeOf (ids ms) (getD p 0 0) → length ms ≤ j → (firstPlace ms (drop 1 p) ≡ firstPlace ms p) × (suc (searched ms (drop 1 p) .passed) ≡ searched ms p .passed)
   later-entry [] h e l = absurd (omega arith)
   later-entry (x ∷ p) h e l = go (live ms x) refl
     where
-      go : (b : Bool) → live ms x ≡ b → firstPlace ms p ≡ (if b then placeOf (ids ms) x else firstPlace ms p)
+      go : (b : Bool) → live ms x ≡ b → (firstPlace ms p ≡ (if b then placeOf (ids ms) x else firstPlace ms p)) × (suc (searched ms p .passed) ≡ (if b then record { entry = some x; passed = 0 } else past (searched ms p)) .passed)
       go true t = absurd (omega (arith, place-found (ids ms) x t .0, length-ids ms))
-      go false t = refl
+      go false t = (refl, refl)
 
 -- In a whole table
 
@@ -118,19 +119,29 @@ module _ (ws : List ℕ) where
         let z : contains (ids ms) x ≡ false = contains-rank (ids ms) x (f .rises) ∙ rw (ids-count ws, ← e) h in
         sym (place-none (ids ms) x z ∙ ids-count ws)
 
-  -- `first_place`
-  module _ (p : List ℕ) (j : ℕ) (h : 0 < length p) (e : j ≡ placeOf (ids ms) (getD p 0 0)) where
-    pub first-here : j < n → j ≡ firstPlace ms p
-    first-here l = first-entry ms j p h e (omega (arith, member-count))
+  -- `first_live`: the search of p is what is left of the search of l
+  abbrev pub Left : List ℕ → List ℕ → Type 0
+  Left l p = (length p ≤ length l) × (firstPlace ms p ≡ firstPlace ms l) × ((length l - length p) + searched ms p .passed ≡ searched ms l .passed)
 
-    pub first-on : n ≤ j → firstPlace ms (drop 1 p) ≡ firstPlace ms p
-    first-on l = later-entry ms j p h e (omega (arith, member-count))
+  module _ (l p : List ℕ) (u : Left l p) (j : ℕ) (h : 0 < length p) (e : j ≡ placeOf (ids ms) (getD p 0 0)) where
+    pub first-here : j < n → (j ≡ firstPlace ms l) × (length l - length p ≡ searched ms l .passed)
+    first-here i = let w = first-entry ms j p h e (omega (arith, member-count)) in (w .0 ∙ u .1, omega (arith, w .1, u .2))
 
-  pub first-end : (p : List ℕ) → length p ≤ 0 → n ≡ firstPlace ms p
-  first-end [] h = sym member-count
-  first-end (x ∷ p) h = absurd (omega arith)
+    pub first-on : n ≤ j → Left l (drop 1 p)
+    first-on i =
+        let w = later-entry ms j p h e (omega (arith, member-count)) in
+        let d : length (drop 1 p) ≡ length p - 1 = length-drop 1 p in
+        (omega (arith, d, u .0), w .0 ∙ u .1, omega (arith, d, w .1, u .0, u .2, h))
 
-  -- `best_places`: with the entry at place k stored, one place more is right
+  -- `best_of`: the first entry stands at the place guessed
+  pub first-guessed : Formed ws → (p : List ℕ) (j : ℕ) → 0 < length p → j < n → idAt j ≡ getD p 0 0 → (j ≡ firstPlace ms p) × (0 ≡ searched ms p .passed)
+  first-guessed f p j h l e = let w = first-entry ms j p h (placed f (getD p 0 0) j l e) (omega (arith, member-count)) in (w .0, sym (w .1))
+
+  pub first-end : (l p : List ℕ) → Left l p → length p ≤ 0 → (n ≡ firstPlace ms l) × (length l ≡ searched ms l .passed)
+  first-end l [] u h = (sym member-count ∙ u .1, omega (arith, u .2))
+  first-end l (x ∷ p) u h = absurd (omega arith)
+
+  -- `fill_best`: with the entry at place k stored, one place more is right
   abbrev pub Right : List ℕ → ℕ → Type 0
   Right a k = (i : ℕ) → i < k → getD a i 0 ≡ nextPlace ms i
 
@@ -139,6 +150,16 @@ module _ (ws : List ℕ) where
 
   pub all-stored : (a : List ℕ) (k : ℕ) → Right a k → n ≤ k → BestPlaces ws a
   all-stored a k r h = record { at = λ i l. r i (omega (arith, member-count)) }
+
+  -- `fill_best`: the entries passed over by the members from place k on
+  abbrev pub passedFrom : ℕ → ℕ
+  passedFrom k = sum (map (passedBy ms) (drop k ms))
+
+  pub passed-on : (k p : ℕ) → k < n → p ≡ passedBy ms (getD ms k nobody) → p + passedFrom (k + 1) ≡ passedFrom k
+  passed-on k p h e = rw (add-one, drop-cons ms k nobody (omega (arith, member-count)), e)
+
+  pub passed-end : (k : ℕ) → n ≤ k → passedFrom k ≡ 0
+  passed-end k h = rw (drop-of-length-le ms {i = k} (omega (arith, member-count)))
 
   -- an array's entry at a member's place
   pub best-at : (a : List ℕ) → BestPlaces ws a → (k : ℕ) → k < n → getD a k 0 ≡ nextPlace ms k
@@ -156,6 +177,9 @@ module _ (ws : List ℕ) where
     module _ (f : Formed ws) where
       named-here : named ms (idAt k) ≡ getD ms k nobody
       named-here = named-place ms k (rises f) (omega (arith, member-count))
+
+      pub passed-here : {p : ℕ} → p ≡ passedBy ms (getD ms k nobody) → passedBy ms (named ms (idAt k)) ≡ p
+      passed-here w = ap (passedBy ms) named-here ∙ sym w
 
       pub best : j < n → bestSuccessor ms (idAt k) ≡ some (idAt j)
       best l = rw (named-here, e) (first-found ms (getD ms k nobody .successors) (has-live ∙ lt-ltb j n l) .1)

@@ -1,24 +1,19 @@
 // Best successors, by places in the table: the moves round the ring go by them. For the crates above; each function asks for a well-formed table.
 ghost use mathlib.Core.Path.{_≡_};
 ghost use Prim.Native.Nat.{_<_, _≤_};
-ghost use lib.ListN.{getD};
+ghost use lib.ListN.{length, getD};
 ghost use Rattle.model.specs.Lists.{every};
 ghost use Rattle.model.specs.Table.{membersIn, ids};
-ghost use Rattle.model.specs.Ring.{hasLive};
+ghost use Rattle.model.specs.Ring.{nobody, hasLive, searched, passedBy, passedByAll};
 ghost use Rattle.table.specs.Formed.{Formed};
 ghost use Rattle.ring.specs.Places.{placeOf, firstPlace, nextPlace, BestPlaces};
 
-// The place of the member x, or the member count where x is none; looked for first at the place guessed.
-pub fn place(t: &[u32], guess: usize, x: u32) -> usize
-    requires { ⌜ Formed (now t) ⌝ }
-    ensures { λ k. ⌜ (k ≡ placeOf (ids (membersIn (now (t .entry)))) x) × (k ≤ getD (now (t .entry)) 1 0) ⌝ }
-{
-    let n = t[1] as usize;
-    let k = table::rank_from(t, guess, x);
-    if table::stands_at(t, k, x) {
-        return k;
-    }
-    n
+// What the search of a list for its first live entry tells.
+pub struct Search {
+    // the place of that entry, or the member count where none is live
+    pub place: usize,
+    // how many entries were passed over
+    pub passed: usize,
 }
 
 // The identifier of the member at a place.
@@ -32,33 +27,95 @@ pub fn id_at(t: &[u32], k: usize) -> u32
     t[at]
 }
 
-// The place of the first live entry of a list, or the member count where none is live; looked for first at the place guessed.
-pub fn first_place(t: &[u32], guess: usize, l: &[u32]) -> usize
+// The place of the member x, or the member count where x is none; looked for first at the place guessed.
+pub fn place(t: &[u32], guess: usize, x: u32) -> usize
     requires { ⌜ Formed (now t) ⌝ }
-    ensures { λ k. ⌜ (k ≡ firstPlace (membersIn (now (t .entry))) (now (l .entry))) × (k ≤ getD (now (t .entry)) 1 0) ⌝ }
+    requires { ⌜ guess < getD (now t) 1 0 ⌝ }
+    ensures { λ k. ⌜ (k ≡ placeOf (ids (membersIn (now (t .entry)))) x) × (k ≤ getD (now (t .entry)) 1 0) ⌝ }
+{
+    if id_at(t, guess) == x {
+        return guess;
+    }
+    let n = t[1] as usize;
+    let k = table::rank(t, x);
+    if table::stands_at(t, k, x) {
+        return k;
+    }
+    n
+}
+
+// The search of a list for its first live entry; each is looked for first at the place guessed.
+pub fn first_live(t: &[u32], guess: usize, l: &[u32]) -> Search
+    requires { ⌜ Formed (now t) ⌝ }
+    requires { ⌜ guess < getD (now t) 1 0 ⌝ }
+    ensures { λ s. ⌜ (s .place ≡ firstPlace (membersIn (now (t .entry))) (now (l .entry))) × (s .place ≤ getD (now (t .entry)) 1 0) × (s .passed ≡ searched (membersIn (now (t .entry))) (now (l .entry)) .passed) ⌝ }
 {
     let n = t[1] as usize;
     let mut p = l;
     while 0 < p.len() {
         let k = place(t, guess, p[0]);
         if k < n {
-            return k;
+            return Search {
+                place: k,
+                passed: l.len() - p.len(),
+            };
         }
         p = &p[1..];
     }
-    n
+    Search {
+        place: n,
+        passed: l.len(),
+    }
 }
 
-// The place of the best successor of the member at place k, or the member count where it has none.
-pub fn best_place(t: &[u32], k: usize) -> usize
+// The place after k, round the end: where the best successor of the member at k stands on a settled ring.
+fn place_after(n: usize, k: usize) -> usize
+    requires { ⌜ k < n ⌝ }
+    ensures { λ j. ⌜ j < n ⌝ }
+{
+    if k + 1 < n {
+        return k + 1;
+    }
+    0
+}
+
+// The search of the list of the member at place k: where its best successor stands, if it has one. On a settled ring the first look finds it.
+pub fn best_of(t: &[u32], k: usize) -> Search
     requires { ⌜ Formed (now t) ⌝ }
     requires { ⌜ k < getD (now t) 1 0 ⌝ }
-    ensures { λ j. ⌜ (j ≡ nextPlace (membersIn (now (t .entry))) k) × (j ≤ getD (now (t .entry)) 1 0) ⌝ }
+    ensures { λ s. ⌜ (s .place ≡ nextPlace (membersIn (now (t .entry))) k) × (s .place ≤ getD (now (t .entry)) 1 0) × (s .passed ≡ passedBy (membersIn (now (t .entry))) (getD (membersIn (now (t .entry))) k nobody)) × (s .passed ≤ getD (now (t .entry)) 0 0) ⌝ }
 {
     let r = t[0] as usize;
+    let n = t[1] as usize;
     let at = words::offset(r, k) + words::LIST;
     let end = at + r;
-    first_place(t, k + 1, &t[at..end])
+    let l = &t[at..end];
+    let next = place_after(n, k);
+    if id_at(t, next) == l[0] {
+        return Search {
+            place: next,
+            passed: 0,
+        };
+    }
+    first_live(t, next, l)
+}
+
+// The search of each list: the places of all best successors are put into the array, and the entries passed over are added up.
+pub fn fill_best(t: &[u32], best: &mut [u16; 256]) -> u32
+    requires { ⌜ Formed (now t) ⌝ }
+    requires { ⌜ length (now best) ≡ 256 ⌝ }
+    ensures { λ passed. ⌜ BestPlaces (now (t .entry)) (now (best .exit)) × (passed ≡ passedByAll (membersIn (now (t .entry)))) ⌝ }
+{
+    let n = t[1] as usize;
+    let mut passed: u32 = 0;
+    let mut k = 0;
+    while k < n {
+        let s = best_of(t, k);
+        best[k] = s.place as u16;
+        passed += s.passed as u32;
+        k += 1;
+    }
+    passed
 }
 
 // The places of all best successors, each found once.
@@ -66,13 +123,8 @@ pub fn best_places(t: &[u32]) -> [u16; 256]
     requires { ⌜ Formed (now t) ⌝ }
     ensures { λ a. ⌜ BestPlaces (now (t .entry)) a ⌝ }
 {
-    let n = t[1] as usize;
     let mut a = [0u16; 256];
-    let mut k = 0;
-    while k < n {
-        a[k] = best_place(t, k) as u16;
-        k += 1;
-    }
+    fill_best(t, &mut a);
     a
 }
 

@@ -6,31 +6,34 @@ use mathlib.Core.List.{List, [], _∷_}
 use native.Mathlib.Omega.{arith}
 use borrow.Author.Tests.{ne-eqb}
 use Rattle.model.specs.Identifier.{space}
-use Rattle.model.specs.Table.{Table, tableOf, wellFormed}
-use Rattle.model.specs.Ring.{sound, verdict}
+use Rattle.model.specs.Table.{Table, tableOf, membersIn, wellFormed}
+use Rattle.model.specs.Ring.{sound, verdict, passedByAll}
+use Rattle.model.specs.Answer.{Answer, declined, answer, afterwards}
 use Rattle.model.specs.Settle.{afterRound, afterRounds, roundsRun, afterSettle, settleReply}
 use Rattle.model.specs.Refusals.{settleRefusal}
 use Rattle.model.specs.Calls.{written}
-use Rattle.laws.specs.Accepted.{settle-accepted, settle-accepts}
+use Rattle.laws.specs.Accepted.{declined-answer, unchanged, settle-accepted}
 use Rattle.theory.specs.Runs.{Good, good-kept}
 use Rattle.theory.specs.Turns.{round-lasts}
 use Rattle.turns.specs.Lasting.{Lasting}
 use Rattle.turns.proofs.Lasting.{lasting-none, Next, lasting-next}
+use Rattle.settle.specs.Begun.{Begins}
+use Rattle.settle.specs.declared.Begun.the-variants.{Declined}
 
 -- The causes
 
 module _ (ws : List ℕ) where
-  pub no-table : wellFormed ws ≡ false → 1 ≡ settleRefusal ws
+  pub no-table : wellFormed ws ≡ false → Begins ws (Declined 1)
   unfolding settleRefusal
-  no-table h = rw h
+  no-table h = (rw h, λ z. omega (arith, z))
 
-  module _ (h : wellFormed ws ≡ true) where
-    pub not-sound : sound (tableOf ws) ≡ false → 14 ≡ settleRefusal ws
-    unfolding settleRefusal
-    not-sound s = rw (h, s)
+  pub not-sound : wellFormed ws ≡ true → sound (tableOf ws) ≡ false → Begins ws (Declined 14)
+  unfolding settleRefusal
+  not-sound h s = (rw (h, s), λ z. omega (arith, z))
 
-    pub no-cause : sound (tableOf ws) ≡ true → 0 ≡ settleRefusal ws
-    no-cause s = sym (settle-accepts ws h s)
+  -- a call that is declined answers that number, and leaves the words as they were
+  pub declines : {c : ℕ} → Begins ws (Declined c) → (a : Answer) (new : List ℕ) → (declined c ≡ answer (settleRefusal ws) a) × (ws ≡ afterwards (settleRefusal ws) new ws)
+  declines {c} b a new = (rw (← b .0) (declined-answer c a (b .1)), rw (← b .0) (unchanged c new ws (b .1)))
 
   pub granted : settleRefusal ws ≡ 0 → Good ws
   granted e = let a = settle-accepted ws e in record { well-formed = a .0; is-sound = a .1 }
@@ -63,18 +66,19 @@ module _ {ws : List ℕ} (g : Good ws) (limit : ℕ) where
       record { follows = lasting-none g; few = omega arith; looked = e; counts = omega (arith, c); rest = ap (λ (k : ℕ). afterSettle space k (tableOf ws)) q }
 
   module _ {us : List ℕ} {rounds v : ℕ} (u : Settling limit ws rounds v us) where
-    ends : roundsRun space (limit - rounds) (tableOf us) ≡ 0 → (rounds ∷ v ∷ [] ≡ settleReply space limit (tableOf ws)) × (us ≡ written (afterSettle space limit (tableOf ws)) ws)
-    ends z =
-        let c : rounds ≡ roundsRun space limit (tableOf ws) = omega (arith, u .counts, z) in
-        let t : tableOf us ≡ afterSettle space limit (tableOf ws) = ap (λ (k : ℕ). afterRounds space k (tableOf us)) (sym z) ∙ u .rest in
-        (ap (λ (k : ℕ). k ∷ v ∷ []) c ∙ ap (λ (k : ℕ). roundsRun space limit (tableOf ws) ∷ k ∷ []) (u .looked ∙ ap verdict t), u .follows .in-place ∙ ap (λ (T : Table). written T ws) t)
+    -- the table is ideal, or so many rounds have run; the sum is of the table as it began
+    module _ {passed : ℕ} (p : passed ≡ passedByAll (membersIn ws)) where
+      ends : roundsRun space (limit - rounds) (tableOf us) ≡ 0 → (rounds ∷ v ∷ passed ∷ [] ≡ settleReply space limit (tableOf ws)) × (us ≡ written (afterSettle space limit (tableOf ws)) ws)
+      ends z =
+          let c : rounds ≡ roundsRun space limit (tableOf ws) = omega (arith, u .counts, z) in
+          let t : tableOf us ≡ afterSettle space limit (tableOf ws) = ap (λ (k : ℕ). afterRounds space k (tableOf us)) (sym z) ∙ u .rest in
+          (rw (c, u .looked, t, p), u .follows .in-place ∙ ap (λ (T : Table). written T ws) t)
 
-    -- the table is ideal, or so many rounds have run
-    pub settling-ideal : v ≡ 2 → (rounds ∷ v ∷ [] ≡ settleReply space limit (tableOf ws)) × (us ≡ written (afterSettle space limit (tableOf ws)) ws)
-    settling-ideal e = ends (ends-ideal (limit - rounds) (tableOf us) (sym (u .looked) ∙ e))
+      pub settling-ideal : v ≡ 2 → (rounds ∷ v ∷ passed ∷ [] ≡ settleReply space limit (tableOf ws)) × (us ≡ written (afterSettle space limit (tableOf ws)) ws)
+      settling-ideal e = ends (ends-ideal (limit - rounds) (tableOf us) (sym (u .looked) ∙ e))
 
-    pub settling-all : limit ≤ rounds → (rounds ∷ v ∷ [] ≡ settleReply space limit (tableOf ws)) × (us ≡ written (afterSettle space limit (tableOf ws)) ws)
-    settling-all h = let z : limit - rounds ≡ 0 = omega arith in ends (ap (λ (k : ℕ). roundsRun space k (tableOf us)) z)
+      pub settling-all : limit ≤ rounds → (rounds ∷ v ∷ passed ∷ [] ≡ settleReply space limit (tableOf ws)) × (us ≡ written (afterSettle space limit (tableOf ws)) ws)
+      settling-all h = let z : limit - rounds ≡ 0 = omega arith in ends (ap (λ (k : ℕ). roundsRun space k (tableOf us)) z)
 
     -- or one more runs
     pub settling-on : {vs : List ℕ} {v' : ℕ} → rounds < limit → (v ≡ 2 → ⊥) → v' ≡ verdict (afterRound space (tableOf us)) → vs ≡ written (afterRound space (tableOf us)) us → Settling limit ws (rounds + 1) v' vs

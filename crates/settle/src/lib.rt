@@ -1,40 +1,40 @@
 // Settle: one round, and rounds until the table is ideal. That the table is well-formed and sound is tested once, before the first round: a round keeps it so.
 ghost use mathlib.Core.Path.{_≡_};
 ghost use Rattle.model.specs.Identifier.{space};
-ghost use Rattle.model.specs.Table.{tableOf};
-ghost use Rattle.model.specs.Ring.{sound, verdict};
+ghost use Rattle.model.specs.Table.{tableOf, membersIn};
+ghost use Rattle.model.specs.Ring.{verdict, passedByAll};
 ghost use Rattle.model.specs.Answer.{accepted};
 ghost use Rattle.model.specs.Settle.{afterRound, afterSettle, settleReply};
-ghost use Rattle.model.specs.Refusals.{settleRefusal};
 ghost use Rattle.model.specs.Calls.{written, roundAnswer, roundWords, settleAnswer, settleWords};
 ghost use Rattle.theory.specs.Runs.{Good};
-ghost use Rattle.table.specs.Formed.{Formed};
 ghost use Rattle.judged.specs.Answers.{answerOf as judgedOf};
 ghost use Rattle.settled.specs.Answers.{answerOf as settledOf};
+ghost use Rattle.settle.specs.Begun.{Begins};
 use judged::Judged;
 use settled::Settled;
 
-// Is a well-formed table sound?
-fn is_sound(t: &[u32]) -> bool
-    requires { ⌜ Formed (now t) ⌝ }
-    ensures { λ b. ⌜ b ≡ sound (tableOf (now (t .entry))) ⌝ }
-{
-    let best = ring::best_places(t);
-    let count = principal::count_principals(t);
-    verdict::is_sound(t, &best, count)
+// A table before its first round.
+enum Begun {
+    // it gets rounds: the entries that its members pass over, added up
+    Passed(u32),
+    // the number that declines the call
+    Declined(u32),
 }
 
-// Why the table gets no round: 1 or 14, or 0.
-fn refusal(t: &[u32]) -> u32
-    ensures { λ c. ⌜ c ≡ settleRefusal (now (t .entry)) ⌝ }
+// What the members pass over, or 1 or 14. Each list is searched once, for the sum and for the test of soundness.
+fn begun_of(t: &[u32]) -> Begun
+    ensures { λ b. ⌜ Begins (now (t .entry)) b ⌝ }
 {
     if table::well_formed(t) {
-        if is_sound(t) {
-            return 0;
+        let mut best = [0u16; 256];
+        let passed = ring::fill_best(t, &mut best);
+        let count = principal::count_principals(t);
+        if verdict::is_sound(t, &best, count) {
+            return Begun::Passed(passed);
         }
-        return 14;
+        return Begun::Declined(14);
     }
-    1
+    Begun::Declined(1)
 }
 
 // The verdict on a sound table.
@@ -57,41 +57,40 @@ fn round_of(t: &mut [u32]) -> u32
     verdict_now(t)
 }
 
-// Rounds of a sound table until it is ideal, or until so many have run.
-fn rounds_of(t: &mut [u32], limit: u32) -> Settled
+// Rounds of a sound table until it is ideal, or until so many have run. Its members pass over so many entries as it begins.
+fn rounds_of(t: &mut [u32], limit: u32, passed: u32) -> Settled
     requires { ⌜ Good (now t) ⌝ }
+    requires { ⌜ passed ≡ passedByAll (membersIn (now t)) ⌝ }
     ensures { λ a. ⌜ (settledOf a ≡ accepted (settleReply space limit (tableOf (now (t .entry))))) × (now (t .exit) ≡ written (afterSettle space limit (tableOf (now (t .entry)))) (now (t .entry))) ⌝ }
 {
     let mut rounds: u32 = 0;
     let mut v = verdict_now(t);
     while rounds < limit {
         if v == 2 {
-            return Settled::Ran(rounds, v);
+            return Settled::Ran(rounds, v, passed);
         }
         v = round_of(t);
         rounds += 1;
     }
-    Settled::Ran(rounds, v)
+    Settled::Ran(rounds, v, passed)
 }
 
 // One round: the verdict after it, or 1 or 14 with the table unchanged.
 pub fn round(t: &mut [u32]) -> Judged
     ensures { λ a. ⌜ (judgedOf a ≡ roundAnswer (now (t .entry))) × (now (t .exit) ≡ roundWords (now (t .entry))) ⌝ }
 {
-    let c = refusal(t);
-    if c != 0 {
-        return Judged::Declined(c);
+    match begun_of(t) {
+        Begun::Passed(_) => Judged::Verdict(round_of(t)),
+        Begun::Declined(c) => Judged::Declined(c),
     }
-    Judged::Verdict(round_of(t))
 }
 
-// Rounds until the table is ideal, at most so many: the rounds run and the verdict, or 1 or 14 with the table unchanged.
+// Rounds until the table is ideal, at most so many: the rounds run, the verdict and the entries passed over as it began; or 1 or 14 with the table unchanged.
 pub fn settle(t: &mut [u32], limit: u32) -> Settled
     ensures { λ a. ⌜ (settledOf a ≡ settleAnswer (now (t .entry)) limit) × (now (t .exit) ≡ settleWords (now (t .entry)) limit) ⌝ }
 {
-    let c = refusal(t);
-    if c != 0 {
-        return Settled::Declined(c);
+    match begun_of(t) {
+        Begun::Passed(passed) => rounds_of(t, limit, passed),
+        Begun::Declined(c) => Settled::Declined(c),
     }
-    rounds_of(t, limit)
 }

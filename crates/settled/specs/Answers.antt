@@ -8,16 +8,16 @@ use Rattle.settled.specs.declared.Settled.{Settled}
 use Rattle.settled.specs.declared.Settled.the-variants.{Ran, Declined}
 
 abbrev pub answerOf : Settled → Answer
-answerOf (Ran rounds v) = accepted (rounds ∷ v ∷ [])
+answerOf (Ran rounds v passed) = accepted (rounds ∷ v ∷ passed ∷ [])
 answerOf (Declined k) = declined k
 
 -- the case that a number and values are
 abbrev caseOf : ℕ → List ℕ → Settled
 caseOf k [] = Declined k
-caseOf k (rounds ∷ vs) = Ran rounds (getD vs 0 0)
+caseOf k (rounds ∷ vs) = Ran rounds (getD vs 0 0) (getD vs 1 0)
 
 read-back : (a : Settled) → caseOf (answerOf a .number) (answerOf a .values) ≡ a
-read-back (Ran rounds v) = refl
+read-back (Ran rounds v passed) = refl
 read-back (Declined k) = refl
 
 -- the definition of numbers is one to one

@@ -3,10 +3,10 @@ ghost use Rattle.answer.specs.Packed.{Says};
 ghost use Rattle.settled.specs.Answers.{answerOf};
 use answer::Answer;
 
-// The rounds run and the verdict, or the number that declines the call.
+// The rounds run, the verdict and the entries passed over, or the number that declines the call.
 pub enum Settled {
-    // rounds run, and the verdict afterwards
-    Ran(u32, u32),
+    // rounds run, the verdict afterwards, and the entries that all members of the table passed over as it began
+    Ran(u32, u32, u32),
     Declined(u32),
 }
 
@@ -15,10 +15,10 @@ pub fn numbers(a: Settled) -> Answer
     ensures { λ n. ⌜ Says n (answerOf a) ⌝ }
 {
     match a {
-        Settled::Ran(rounds, v) => Answer {
+        Settled::Ran(rounds, v, passed) => Answer {
             number: 0,
-            values: [rounds, v, 0, 0],
-            count: 2,
+            values: [rounds, v, passed, 0],
+            count: 3,
         },
         Settled::Declined(k) => Answer {
             number: k,

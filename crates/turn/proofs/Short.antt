@@ -1,5 +1,5 @@
 -- What a line is answered has at most four values, and at most one where its call is declined. Assumes nothing.
-use Prim.Native.Nat.{ℕ, zero, suc, _≤_}
+use Prim.Native.Nat.{ℕ, zero, suc, _+_, _≤_}
 use mathlib.Core.Bool.{Bool, true, false, not, _||_}
 use mathlib.Core.Path.{_≡_}
 use mathlib.Core.List.{List, [], _∷_, _++_}
@@ -11,7 +11,7 @@ use lib.Seq.{length-take-le}
 use Rattle.model.specs.Lists.{if_then_else_, option}
 use Rattle.model.specs.Identifier.{between}
 use Rattle.model.specs.Table.{Member, membersIn}
-use Rattle.model.specs.Ring.{live, named, successor, isPending, bestSuccessor}
+use Rattle.model.specs.Ring.{live, named, successor, isPending, bestSuccessor, passedBy}
 use Rattle.model.specs.Answer.{Answer, accepted, answer}
 use Rattle.model.specs.Steps.{offered, isBetter, stabilizeFromPredecessor, stabilizeReply, lookupFrom}
 use Rattle.model.specs.Refusals.{joinRefusal, memberRefusal, leaveRefusal, auditRefusal, newRefusal}
@@ -40,17 +40,17 @@ short-answer : (k : ℕ) (a : Answer) → Short a → Short (answer k a)
 short-answer zero a s = s
 short-answer (suc k) a s = refused (suc k) [] (omega arith)
 
-short-lookup : (ms : List Member) (n k q moves : ℕ) → Short (lookupFrom ms n k q moves)
-short-lookup ms zero k q moves = refused 8 (q ∷ []) (omega arith)
-short-lookup ms (suc n) k q moves = go (bestSuccessor ms q) (λ b. short-lookup ms n k b (suc moves))
+short-lookup : (ms : List Member) (n k q moves passed : ℕ) → Short (lookupFrom ms n k q moves passed)
+short-lookup ms zero k q moves passed = refused 8 (q ∷ []) (omega arith)
+short-lookup ms (suc n) k q moves passed = go (passed + passedBy ms (named ms q)) (bestSuccessor ms q) (λ p b. short-lookup ms n k b (suc moves) p)
   where
-    found : (b : ℕ) (t : Bool) → Short (lookupFrom ms n k b (suc moves)) → Short (if t then accepted (b ∷ q ∷ moves ∷ []) else lookupFrom ms n k b (suc moves))
-    found b true s = told (b ∷ q ∷ moves ∷ []) (omega arith)
-    found b false s = s
+    found : (p b : ℕ) (t : Bool) → Short (lookupFrom ms n k b (suc moves) p) → Short (if t then accepted (b ∷ q ∷ moves ∷ p ∷ []) else lookupFrom ms n k b (suc moves) p)
+    found p b true s = short-four
+    found p b false s = s
 
-    go : (o : Option ℕ) → ((b : ℕ) → Short (lookupFrom ms n k b (suc moves))) → Short (option o (record { number = 8; values = q ∷ [] }) (λ b. if eqb k b || between q k b then accepted (b ∷ q ∷ moves ∷ []) else lookupFrom ms n k b (suc moves)))
-    go none s = refused 8 (q ∷ []) (omega arith)
-    go (some b) s = found b (eqb k b || between q k b) (s b)
+    go : (p : ℕ) (o : Option ℕ) → ((p b : ℕ) → Short (lookupFrom ms n k b (suc moves) p)) → Short (option o (record { number = 8; values = q ∷ [] }) (λ b. if eqb k b || between q k b then accepted (b ∷ q ∷ moves ∷ p ∷ []) else lookupFrom ms n k b (suc moves) p))
+    go p none s = refused 8 (q ∷ []) (omega arith)
+    go p (some b) s = found p b (eqb k b || between q k b) (s p b)
 
 short-step : (ms : List Member) (m : Member) → Short (accepted (stabilizeReply ms m))
 unfolding stabilizeReply
@@ -69,7 +69,7 @@ short-call ws (Leave n) = short-answer (leaveRefusal ws n) _ short-one
 short-call ws (Fail n) = short-answer (memberRefusal ws n) _ short-one
 short-call ws (Stabilize n) = short-answer (memberRefusal ws n) _ (short-step (membersIn ws) (named (membersIn ws) n))
 short-call ws (Rectify n q) = short-answer (memberRefusal ws n) _ short-one
-short-call ws (Lookup n k) = short-answer (memberRefusal ws n) _ (short-lookup (membersIn ws) (length (membersIn ws)) k n 0)
+short-call ws (Lookup n k) = short-answer (memberRefusal ws n) _ (short-lookup (membersIn ws) (length (membersIn ws)) k n 0 0)
 short-call ws Audit = short-answer (auditRefusal ws) _ short-four
 
 pub short-word : (ws : List ℕ) (w : Word) (ns : List ℕ) → Short (wordAnswer ws w ns)

@@ -10,26 +10,26 @@ use Rattle.settle.proofs.rounds_of.Statement.{statement}
 use Rattle.settle.proofs.rounds_of.Tie as tie
 
 abbrev Inv-loop : tie.InvT-loop
-Inv-loop t₀ limit rounds₀ v₀ t rounds v = Settling limit t₀ rounds v t
+Inv-loop t₀ limit passed rounds₀ v₀ t rounds v = Settling limit t₀ rounds v t
 
 abbrev μ-loop : tie.MeasureT-loop
-μ-loop t₀ limit rounds₀ v₀ t rounds v = limit - rounds
+μ-loop t₀ limit passed rounds₀ v₀ t rounds v = limit - rounds
 
 abbrev start : tie.At-loop Inv-loop μ-loop → tie.Start Inv-loop μ-loop
 start l = l .before .before .before .before
 
 loop-holds : tie.Need-loop-holds Inv-loop μ-loop
-loop-holds c = let s = c .before .before .before in settling-starts (s .pre) (s .args .limit) (c .verdict-now .ensures)
+loop-holds c = let s = c .before .before .before in settling-starts (s .pre .0) (s .args .limit) (c .verdict-now .ensures)
 
 returns : tie.Need-returns Inv-loop μ-loop
 returns c =
     let l = c .before .before in
     let s = start l in
-    let e = settling-ideal (s .pre) (s .args .limit) (l .loop .inv) (c .if1 .taken) in
+    let e = settling-ideal (s .pre .0) (s .args .limit) (l .loop .inv) (s .pre .1) (c .if1 .taken) in
     (ap accepted (e .0), e .1)
 
 round-of-requires : tie.Need-round-of-requires Inv-loop μ-loop
-round-of-requires c κs = let l = c .before .before .before in good-still (start l .pre) (l .loop .inv .follows)
+round-of-requires c κs = let l = c .before .before .before in good-still (start l .pre .0) (l .loop .inv .follows)
 
 loop-again : tie.Need-loop-again Inv-loop μ-loop
 loop-again c =
@@ -38,13 +38,13 @@ loop-again c =
     let i = e .before in
     let l = i .before in
     let s = start l in
-    settling-on (s .pre) (s .args .limit) (l .loop .inv) (i .loop-test .taken) (e .if1 .left) (r .round-of .ensures .0) (r .round-of .ensures .1)
+    settling-on (s .pre .0) (s .args .limit) (l .loop .inv) (i .loop-test .taken) (e .if1 .left) (r .round-of .ensures .0) (r .round-of .ensures .1)
 
 returns-2 : tie.Need-returns-2 Inv-loop μ-loop
 returns-2 c =
     let l = c .before in
     let s = start l in
-    let e = settling-all (s .pre) (s .args .limit) (l .loop .inv) (c .loop-test .left) in
+    let e = settling-all (s .pre .0) (s .args .limit) (l .loop .inv) (s .pre .1) (c .loop-test .left) in
     (ap accepted (e .0), e .1)
 
 pub rounds-of-spec : {M : Type 1} → statement M
