@@ -244,14 +244,18 @@ impl<'a> Table<'a> {
         }
     }
 
-    /// The place of the first live entry of the list at place k, looked for first at the next place round, and how many entries
-    /// stand before that one.
+    /// The place of the first live entry of the list at place k, each looked for first at the next place round, and how many
+    /// entries stand before that one.
     #[inline]
     fn best(&self, k: usize) -> Option<(usize, u32)> {
-        let guess = if k + 1 < self.members { k + 1 } else { 0 };
+        let next = if k + 1 < self.members { k + 1 } else { 0 };
+        let list = &self.record(k)[4..];
+        if self.id(next) == list[0] {
+            return Some((next, 0));
+        }
         (0..)
-            .zip(&self.record(k)[4..])
-            .find_map(|(passed, &x)| Some((self.place_from(guess, x)?, passed)))
+            .zip(list)
+            .find_map(|(passed, &x)| Some((self.place_from(next, x)?, passed)))
     }
 
     /// The places of all best successors, the member count where there is none, and how many entries all searches passed over.
