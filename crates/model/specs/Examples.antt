@@ -172,19 +172,23 @@ waiting15 = listsOfTwo (record { id = 10; predecessor = 50; pending = 1; candida
 
 -- rounds run, verdict and entries passed over: 5 - 4 + 2 = 3 rounds after a join, the limit reached, limit 0, none for an ideal table; the verdict after one round. Step counts and verdicts:
 -- 16 steps in the three rounds, 25 being looked at in the second; the pending step of 10 finished first, and its notice delivered, 2 and 1 and 1; the pending step whose notice
--- is lost, then again, then done, 3 and 1 and 1 and 1. 14 for two members, 1 for no table, and neither for a sound table that is not ideal
+-- is lost, then again, then done, 3 and 1 and 1 and 1
 abbrev pub settleCases : List Case
 settleCases =
     (roundsRun space 9 joined25 ∷ verdict (afterRounds space 3 joined25) ∷ afterRounds space 3 joined25 .steps ∷ [] gives 3 ∷ 2 ∷ 16 ∷ []) ∷
     (settleReply space 1 joined25 gives 1 ∷ 1 ∷ 0 ∷ []) ∷
     (settleReply space 0 joined25 ++ settleReply space 9 (ring4 10 40) ++ roundReply space joined25 gives 0 ∷ 1 ∷ 0 ∷ 0 ∷ 2 ∷ 0 ∷ 1 ∷ []) ∷
     (afterRound space waiting30 .steps ∷ roundReply space waiting30 gives 4 ∷ 2 ∷ []) ∷
-    (afterRound space waiting15 .steps ∷ roundReply space waiting15 gives 6 ∷ 2 ∷ []) ∷
-    (settleRefusal (wordsOf (ring2 20)) ∷ settleRefusal blank ∷ settleRefusal (wordsOf joined25) ∷ [] gives 14 ∷ 1 ∷ 0 ∷ []) ∷ []
+    (afterRound space waiting15 .steps ∷ roundReply space waiting15 gives 6 ∷ 2 ∷ []) ∷ []
 
 pub settles : map (λ c. c .computed) settleCases ≡ map (λ c. c .expected) settleCases
-unfolding settleRefusal verdict sound ideal idealMember candidateInside between after stabilize stabilizeFromSuccessor stabilizeFromPredecessor stabilizeReply nextStep renews delivered lastStep finished afterTurn afterRound wellFormed formed formedMember
+unfolding verdict sound ideal idealMember candidateInside between after stabilize stabilizeFromSuccessor stabilizeFromPredecessor stabilizeReply nextStep renews delivered lastStep finished afterTurn afterRound
 settles = refl
+
+-- 14 for two members, 1 for no table, and neither for a sound table that is not ideal
+pub settle-refusals : settleRefusal (wordsOf (ring2 20)) ∷ settleRefusal blank ∷ settleRefusal (wordsOf joined25) ∷ [] ≡ 14 ∷ 1 ∷ 0 ∷ []
+unfolding settleRefusal sound ideal idealMember candidateInside between wellFormed formed formedMember
+settle-refusals = refl
 
 -- lists with dead entries before, between and after live ones: 10 passes over 15, 20 over 22 and 24, 30 over none
 abbrev pub stale : List Member
