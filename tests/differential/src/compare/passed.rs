@@ -123,10 +123,6 @@ impl Passed {
         self.shapes.told()
     }
 
-    fn meet(&mut self, met: &[(bool, &str)]) {
-        met.iter().filter(|met| met.0).for_each(|met| self.shapes.meet(met.1));
-    }
-
     /// Finds from some members for some keys.
     fn finds(
         &mut self,
@@ -147,7 +143,7 @@ impl Passed {
             let all = found && each.iter().all(|&passed| passed > 0);
             let some = each.iter().any(|&passed| passed > 0);
             let round = found && each.len() == members.len();
-            self.meet(&[
+            self.shapes.meet_each(&[
                 (found && each.len() == 1, "a find from one member"),
                 (each.len() > 1 && some && !all, "a find from several members, some pass entries"),
                 (each.len() > 1 && all, "a find from several members, all pass entries"),
@@ -189,7 +185,7 @@ impl Passed {
             if ran > 0 && !full && sum(&self::searches(&mut table)?) != 0 {
                 return start.wrong("lookup", "entries passed over after a round".to_string());
             }
-            self.meet(&[
+            self.shapes.meet_each(&[
                 (limit == 0 && due > 0, "settle with limit 0, entries passed"),
                 (limit == 0 && due == 0, "settle with limit 0, nothing passed"),
                 (ran > 0 && due > 0, "settle with rounds run, entries passed"),
@@ -204,7 +200,7 @@ impl Passed {
         let passes = |id: &u32| searches[id].is_some_and(|search| search.1 > 0);
         let passing: Vec<u32> = searches.keys().copied().filter(passes).collect();
         let only = |id: Option<&u32>| passing.len() == 1 && passing.first() == id;
-        self.meet(&[
+        self.shapes.meet_each(&[
             (only(searches.keys().next()), "settle with one member passing, the lowest"),
             (only(searches.keys().last()), "settle with one member passing, the highest"),
         ]);
@@ -238,7 +234,7 @@ impl Passed {
             return before.wrong("lookup", format!("verdict 2, and {due} are passed over"));
         }
         let seven = searches.values().flatten().any(|search| search.1 == 7);
-        self.meet(&[
+        self.shapes.meet_each(&[
             (r == 1, "r = 1"),
             (r == 8 && seven, "r = 8, a member passes 7"),
             (verdict == 2, "verdict 2"),

@@ -23,6 +23,11 @@ impl<const COUNT: usize> Shapes<COUNT> {
         self.met[at] += 1;
     }
 
+    /// Counts those of these names that hold.
+    pub fn meet_each(&mut self, met: &[(bool, &str)]) {
+        met.iter().filter(|met| met.0).for_each(|met| self.meet(met.1));
+    }
+
     pub fn never_met(&self) -> Option<&'static str> {
         self.names.iter().zip(self.met).find(|&(_, met)| met == 0).map(|(&name, _)| name)
     }

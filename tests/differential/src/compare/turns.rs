@@ -68,10 +68,6 @@ impl Turns {
         self.shapes.told()
     }
 
-    fn meet(&mut self, met: &[(bool, &str)]) {
-        met.iter().filter(|met| met.0).for_each(|met| self.shapes.meet(met.1));
-    }
-
     /// The turn of a member.
     fn turn(&mut self, table: &mut Lone, n: u32) -> Result<()> {
         let own = record(table.words(), n).expect("a member").to_vec();
@@ -86,7 +82,7 @@ impl Turns {
                 return table.wrong("stabilize", format!("{n} finishes a step by {said:?}"));
             }
             first_new = notice(table, said[1], n)?;
-            self.meet(&[
+            self.shapes.meet_each(&[
                 (candidate, "a pending step, its candidate live"),
                 (!candidate, "a pending step, its candidate dead"),
                 (lost, "a pending step, its candidate and first entry dead, its notice lost"),
@@ -108,7 +104,7 @@ impl Turns {
                     if first_new && new {
                         return table.wrong("rectify", format!("both notices of {n} are new"));
                     }
-                    self.meet(&[
+                    self.shapes.meet_each(&[
                         (pending && agains > 0, "a pending step, then again"),
                         (pending && agains == 0 && look.is_some(), "a pending step, then look"),
                         (new, "a last notice is new"),
@@ -159,7 +155,7 @@ impl Turns {
                 self.rounds += 1;
             }
             let stops = before.words()[2] < u32::MAX && table.words()[2] == u32::MAX;
-            self.meet(&[(stops, "a step count that stops")]);
+            self.shapes.meet_each(&[(stops, "a step count that stops")]);
             if number == enough {
                 let mut due = before.words().to_vec();
                 due[2] = due[2].saturating_add(members.len() as u32);
@@ -232,7 +228,7 @@ impl Turns {
             self.settling(&start, limit, &states, passed)?;
         }
         let pending = records(start.words()).any(|m| m[2] == 1);
-        self.meet(&[
+        self.shapes.meet_each(&[
             (ran == s - 1, "s - 1 rounds"),
             (ran == enough && ran < s - 1, "s - P + r rounds, fewer than s - 1"),
             (ran == 0, "no round"),
