@@ -16,7 +16,6 @@ pub mod Withdrawals
 pub mod Lookup
 pub mod Owners
 pub mod Held
-pub mod Passed
 pub mod Pairs
 pub mod Moves
 pub mod Images
@@ -27,6 +26,7 @@ pub mod Rounds
 pub mod Far
 pub mod Right
 pub mod Settled
+pub mod Passed
 pub mod Served
 pub mod Tight
 pub mod Demand3

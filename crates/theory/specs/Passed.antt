@@ -12,14 +12,14 @@ use lib.ListN.{length, getD, take}
 use Rattle.model.specs.Lists.{if_then_else_, option, sum}
 use Rattle.model.specs.Identifier.{between, space}
 use Rattle.model.specs.Table.{Member, Table, tableOf, membersIn, ids, wellFormed}
-use Rattle.model.specs.Ring.{live, named, successor, Search, past, searched, firstLive, bestSuccessor, passedBy, passedByAll, sound, ideal, verdict}
+use Rattle.model.specs.Ring.{live, named, successor, Search, past, searched, firstLive, bestSuccessor, passedBy, passedByAll, principal, sound, ideal, verdict}
 use Rattle.model.specs.Answer.{Answer, accepted, answer}
 use Rattle.model.specs.Steps.{lookupFrom, lookup}
-use Rattle.model.specs.Settle.{roundsRun}
+use Rattle.model.specs.Settle.{afterRound, roundsRun}
 use Rattle.model.specs.Refusals.{memberRefusal}
-use Rattle.model.specs.Calls.{lookupAnswer, settleAnswer}
-use Rattle.laws.specs.Lists.{In, here, there, found, live-in}
-use Rattle.laws.specs.Searches.{first-next}
+use Rattle.model.specs.Calls.{lookupAnswer, settleAnswer, roundWords}
+use Rattle.laws.specs.Lists.{In, here, there, found, named-in, in-ids, rising-nodup, live-in, in-live}
+use Rattle.laws.specs.Searches.{first-next, found-first}
 use Rattle.laws.specs.Accepted.{member-accepts, settle-accepts}
 use Rattle.laws.specs.Tables.{wellFormed-facts}
 use Rattle.laws.specs.Verdicts.{verdict-ideal}
@@ -27,6 +27,9 @@ use Rattle.theory.specs.Entries.{firstLive-in}
 use Rattle.theory.specs.Lookup.{passedOn, Answered, lookupAnswer-answers}
 use Rattle.theory.specs.Owners.{Finds}
 use Rattle.theory.specs.Held.{ideal-found}
+use Rattle.theory.specs.Runs.{Good, good-kept}
+use Rattle.theory.specs.Rounds.{AllCalm, calm-round}
+use Rattle.theory.specs.Settled.{round-table}
 
 -- What a search tells, of every list; of a member's list the entry found is its best successor
 
@@ -154,3 +157,29 @@ module _ (ws : List ℕ) (wf : wellFormed ws ≡ true) (h : ideal (tableOf ws) �
       go : Answered ms n k (lookupAnswer ws n k) → f .passed ≡ 0
       go (inl o) = ap (λ (a : Answer). getD (a .values) 3 0) (sym (f .answer) ∙ o .answer) ∙ (o .added ∙ none-on (o .moves) n (live-in ms n l))
       go (inr c) = absurd (omega (arith, ap (λ (a : Answer). a .number) (sym (f .answer) ∙ c .answer)))
+
+-- After a round
+
+module _ (ws : List ℕ) (wf : wellFormed ws ≡ true) (so : sound (tableOf ws) ≡ true) where
+  abbrev T : Table
+  T = tableOf ws
+
+  abbrev after : Table
+  after = afterRound space T
+
+  good : Good ws
+  good = record { well-formed = wf; is-sound = so }
+
+  calms : AllCalm space (T .r) (ids (T .members)) (principal (T .members)) after
+  calms = calm-round space (T .r) (ids (T .members)) (principal (T .members)) T (record { kept = good-kept ws good; is-r = refl; is-ids = refl; spares = λ q i h. h })
+
+  none-by : (m : Member) → In m (after .members) → passedBy (after .members) m ≡ 0
+  none-by m i =
+      let fo = calms .common .kept .formed in
+      let e = named-in (after .members) (rising-nodup (ids (after .members)) (fo .ids-rising)) i in
+      let l : In (successor m) (ids (after .members)) = rw e at (calms .calm (m .id) (rw (calms .common .is-ids) at (in-ids i)) .lives) in
+      ap (λ (f : Search). f .passed) (found-first (after .members) (m .successors) (omega (arith, fo .each m i .list-length, fo .r-low)) (in-live (after .members) l))
+
+  -- the first entry of each member of a sound table is a member then: nothing is passed over, until a member goes
+  pub round-passes-none : passedByAll (membersIn (roundWords ws)) ≡ 0
+  round-passes-none = ap (λ (U : Table). passedByAll (U .members)) (round-table ws good) ∙ nothing-added (after .members) (after .members) none-by

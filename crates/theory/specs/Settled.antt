@@ -149,7 +149,7 @@ module _ (ws : List ℕ) (s : Good ws) where
   pub round-slice : Good (roundWords ws)
   round-slice = rw round-is (rounds-slice 1 ws s .0)
 
-  round-table : tableOf (roundWords ws) ≡ afterRound space (tableOf ws)
+  pub round-table : tableOf (roundWords ws) ≡ afterRound space (tableOf ws)
   round-table = ap tableOf round-is ∙ rounds-slice 1 ws s .1
 
 -- the slice after k rounds has the table after k rounds
