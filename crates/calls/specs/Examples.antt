@@ -3,7 +3,7 @@ use Prim.Native.Nat.{ℕ, _+_, _*_}
 use mathlib.Core.Path.{_≡_, refl}
 use mathlib.Core.List.{List, [], _∷_}
 use lib.ListN.{replicate}
-use Rattle.model.specs.Identifier.{between, after}
+use Rattle.model.specs.Identifier.{between, after, space}
 use Rattle.model.specs.Table.{headerSize, recordSize, formedMember, formed, wellFormed}
 use Rattle.model.specs.Ring.{candidateInside, sound, idealMember, ideal, verdict}
 use Rattle.model.specs.Answer.{Answer}
@@ -46,5 +46,5 @@ abbrev pub replies : List Answer
 replies = countOf (Members 5) ∷ stepOf (Done 30) ∷ noticeOf New ∷ stepOf (Look 25) ∷ stepOf (Done 25) ∷ reportOf (Audited 5 4 5 1) ∷ countOf (Declined 2) ∷ countOf (Members 4) ∷ countOf (Declined 6) ∷ stepOf Again ∷ ownerOf (Found 20 40 1 0) ∷ noticeOf Same ∷ countOf (Members 3) ∷ ownerOf (Stuck 40) ∷ countOf (Declined 13) ∷ []
 
 session : answers lines (newWords room 2 four) ≡ replies
-unfolding between after formedMember formed wellFormed candidateInside sound idealMember ideal verdict stabilizeFromSuccessor stabilizeFromPredecessor stabilize stabilizeReply nextStep renews full cutsOff tooFewPrincipals noNewTable joinRefusal memberRefusal leaveRefusal auditRefusal newRefusal joinAnswer joinWords stabilizeAnswer stabilizeWords rectifyAnswer rectifyWords failAnswer failWords leaveAnswer leaveWords lookupAnswer auditAnswer newAnswer newWords callAnswer callWords
+unfolding between after formedMember formed wellFormed candidateInside sound idealMember ideal verdict stabilizeFromSuccessor stabilizeFromPredecessor stabilize stabilizeReply nextStep renews full cutsOff tooFewPrincipals noNewTable joinRefusal memberRefusal leaveRefusal auditRefusal newRefusal joinAnswer joinWords stabilizeAnswer stabilizeWords rectifyAnswer rectifyWords failAnswer failWords leaveAnswer leaveWords lookupAnswer auditAnswer newAnswer newWords callAnswer callWords space
 session = refl

@@ -5,18 +5,17 @@ use mathlib.Core.Bool.{true}
 use mathlib.Core.List.{List, [], _∷_, _++_}
 use native.Mathlib.Omega.{arith}
 use lib.ListN.{length, getD, take, drop, take-append-drop}
-use Rattle.model.specs.Identifier.{space}
 use Rattle.model.specs.Table.{Table, headerSize, recordSize, size, tableOf, membersIn}
 use Rattle.model.specs.Ring.{live}
 use Rattle.model.specs.Answer.{_when_, firstOf}
-use Rattle.model.specs.Steps.{without}
+use Rattle.model.specs.Steps.{isNamed, without}
 use Rattle.model.specs.Refusals.{cutsOff, tooFewPrincipals, memberRefusal, leaveRefusal}
 use Rattle.model.specs.Calls.{writtenFreed}
 use Rattle.laws.specs.Lists.{live-in}
 use Rattle.laws.specs.Accepted.{causes-declined}
 use Rattle.laws.specs.Words.{members-length, words-read, words-written, writtenFreed-table}
 use Rattle.laws.specs.Tables.{wellFormed-facts, facts-wellFormed, holds-formed, formed-lists, writtenFreed-formed}
-use Rattle.laws.specs.Removed.{removed-length, removed-formed, removed-size}
+use Rattle.laws.specs.Removed.{staying-formed, without-length, without-size}
 use Rattle.words.proofs.Records.{most-words}
 use Rattle.table.specs.Formed.{Formed}
 use Rattle.table.proofs.Formed.{formed}
@@ -29,7 +28,7 @@ module _ (ws a : List ℕ) (f : Formed ws) (e : take (size (tableOf ws)) a ≡ t
   copied-table =
       let n : ℕ = size (tableOf ws) in
       let w = wellFormed-facts ws (f .right) in
-      sym (ap tableOf (take-append-drop n a)) ∙ ap (λ (l : List ℕ). tableOf (l ++ drop n a)) (e ∙ sym (words-written ws (w .header) (w .fits))) ∙ words-read (tableOf ws) (drop n a) (formed-lists space (tableOf ws) (w .table))
+      sym (ap tableOf (take-append-drop n a)) ∙ ap (λ (l : List ℕ). tableOf (l ++ drop n a)) (e ∙ sym (words-written ws (w .header) (w .fits))) ∙ words-read (tableOf ws) (drop n a) (formed-lists (tableOf ws) (w .table))
 
   pub copied-count : getD a 1 0 ≡ getD ws 1 0
   copied-count = sym (members-length (getD a 0 0) (getD a 1 0) (drop headerSize a)) ∙ (ap (λ (T : Table). length (T .members)) copied-table ∙ members-length (getD ws 0 0) (getD ws 1 0) (drop headerSize ws))
@@ -41,16 +40,16 @@ module _ (ws a : List ℕ) (f : Formed ws) (e : take (size (tableOf ws)) a ≡ t
 
 -- The record of a member, removed
 
-pub one-fewer : (ws : List ℕ) (n : ℕ) → live (membersIn ws) n ≡ true → suc (length (without n (tableOf ws) .members)) ≡ getD ws 1 0
-one-fewer ws n l = removed-length n (membersIn ws) (live-in (membersIn ws) n l) ∙ members-length (getD ws 0 0) (getD ws 1 0) (drop headerSize ws)
+pub one-fewer : (ws : List ℕ) (n : ℕ) → Formed ws → live (membersIn ws) n ≡ true → suc (length (without n (tableOf ws) .members)) ≡ getD ws 1 0
+one-fewer ws n f l = without-length n (membersIn ws) (wellFormed-facts ws (f .right) .table .ids-rising) (live-in (membersIn ws) n l) ∙ members-length (getD ws 0 0) (getD ws 1 0) (drop headerSize ws)
 
 pub removed-facts : (ws : List ℕ) (n : ℕ) → Formed ws → live (membersIn ws) n ≡ true → Formed (writtenFreed (without n (tableOf ws)) ws) × (tableOf (writtenFreed (without n (tableOf ws)) ws) ≡ without n (tableOf ws))
 removed-facts ws n f l =
     let i = live-in (membersIn ws) n l in
     let w = wellFormed-facts ws (f .right) in
     let T : Table = without n (tableOf ws) in
-    let k = removed-formed space n (tableOf ws) (w .table) i in
-    (formed (writtenFreed T ws) (facts-wellFormed (writtenFreed T ws) (writtenFreed-formed T ws k (omega (arith, removed-size n (tableOf ws) i, w .fits)))), writtenFreed-table T ws (formed-lists space T k))
+    let k = staying-formed (isNamed n) (tableOf ws) (w .table) in
+    (formed (writtenFreed T ws) (facts-wellFormed (writtenFreed T ws) (writtenFreed-formed T ws k (omega (arith, without-size n (tableOf ws) (w .table) i, w .fits)))), writtenFreed-table T ws (formed-lists T k))
 
 -- The causes of a withdrawal
 

@@ -6,13 +6,14 @@ use native.Mathlib.Omega.{arith}
 use lib.Dec.{ltb}
 use borrow.Author.Tests.{ltb-true, ltb-false}
 use Rattle.model.specs.Lists.{if_then_else_}
-use Rattle.model.specs.Identifier.{space, after}
+use Rattle.model.specs.Identifier.{after}
+use Rattle.model.specs.Table.{wordLimit}
 use mathlib.Core.Path.{refl}
 
-pub after-wraps : (n : ℕ) → n < space → (n + 1) % 2 ^ 32 ≡ after space n
+pub after-wraps : (n : ℕ) → n < wordLimit → (n + 1) % 2 ^ 32 ≡ after wordLimit n
 unfolding after
-after-wraps n h = go (ltb (suc n) space) refl
+after-wraps n h = go (ltb (suc n) wordLimit) refl
   where
-    go : (b : Bool) → ltb (suc n) space ≡ b → (n + 1) % 2 ^ 32 ≡ if b then suc n else 0
-    go true e = omega (arith, ltb-true (suc n) space e)
-    go false e = omega (arith, ltb-false (suc n) space e)
+    go : (b : Bool) → ltb (suc n) wordLimit ≡ b → (n + 1) % 2 ^ 32 ≡ if b then suc n else 0
+    go true e = omega (arith, ltb-true (suc n) wordLimit e)
+    go false e = omega (arith, ltb-false (suc n) wordLimit e)

@@ -3,13 +3,13 @@ use Prim.Native.Nat.{ℕ, zero, suc, _+_, _*_, _-_, _≤_, _<_}
 use mathlib.Core.Path.{_≡_, refl, ap, _∙_}
 use mathlib.Core.List.{List, _∷_}
 use native.Mathlib.Omega.{arith}
-use lib.ListN.{length, take, drop, length-take, length-drop}
+use lib.ListN.{length, take, drop}
 use Rattle.model.specs.Table.{Member, recordSize, memberOf, recordOf, membersOf, recordsOf}
 use Rattle.model.specs.Image.{fieldHead, memberField, memberFields, fieldMember, fieldMembers}
 use Rattle.laws.specs.Bytes.{fieldSize, field-length, field-part, in-lists}
 use Rattle.laws.specs.Lists.{here}
-use Rattle.laws.specs.Parts.{first-member, one-fits, member-part}
-use Rattle.laws.specs.Words.{record-length}
+use Rattle.laws.specs.Parts.{first-member, one-fits}
+use Rattle.laws.specs.Words.{record-length, record-list, member-part}
 use Rattle.octets.specs.Placed.{placed}
 use Rattle.octets.proofs.Placed.{placed-then}
 
@@ -23,9 +23,9 @@ module _ (at r n w b : ℕ) (words : w ≡ recordSize r) (bytes : b ≡ fieldSiz
   -- `write_fields`: one more field
   pub field-turn : (ws out out' : List ℕ) → n * recordSize r ≤ length ws → at ≤ length out → out' ≡ placed at (memberField (memberOf r (take w ws))) out → placed (at + b) (memberFields (membersOf r (n - 1) (drop w ws))) out' ≡ placed at (memberFields (membersOf r n ws)) out
   field-turn ws out out' fits l e =
-      let m : length (memberOf r ws .successors) ≡ r = simp (length-take, length-drop) (omega (arith, one-fits r n ws some fits)) in
-      let one = e ∙ ap (λ (k : Member). placed at (memberField k) out) (member-part r w ws words) in
-      rw (words, bytes, first-member r n ws some) (placed-then at (fieldSize r) (memberField (memberOf r ws)) (memberFields (membersOf r (n - 1) (drop (recordSize r) ws))) out out' _ l (field-length r (memberOf r ws) m) one refl)
+      let f = one-fits r n ws some fits in
+      let one = e ∙ ap (λ (k : Member). placed at (memberField k) out) (member-part r w ws words (omega arith)) in
+      rw (words, bytes, first-member r n ws some) (placed-then at (fieldSize r) (memberField (memberOf r ws)) (memberFields (membersOf r (n - 1) (drop (recordSize r) ws))) out out' _ l (field-length r (memberOf r ws) (record-list r ws f)) one refl)
 
   -- `read_fields`: one more record
   pub record-turn : (f t t' : List ℕ) → at ≤ length t → t' ≡ placed at (recordOf (fieldMember r (drop fieldHead (take b f)))) t → placed (at + w) (recordsOf (fieldMembers r (n - 1) (drop b f))) t' ≡ placed at (recordsOf (fieldMembers r n f)) t

@@ -1,6 +1,6 @@
 -- A whole image written and read, and the calls' answers. Assumes nothing.
 use Prim.Native.Nat.{ℕ, _+_, _*_, _≤_, _<_}
-use mathlib.Core.Path.{_≡_, refl, sym, ap, _∙_}
+use mathlib.Core.Path.{_≡_, sym, ap, _∙_}
 use mathlib.Core.Bool.{true, false}
 use mathlib.Core.List.{List, [], _∷_, _++_, append-assoc}
 use native.Mathlib.Nat.{zero-add}
@@ -9,10 +9,9 @@ use lib.ListN.{length, getD, drop, length-append}
 use lib.Seq.{sets, sets-eq}
 use borrow.Author.Tests.{lt-ltb, le-ltb}
 use Rattle.model.specs.Lists.{overlay}
-use Rattle.model.specs.Identifier.{space}
-use Rattle.model.specs.Table.{headerSize, recordSize, size, recordsOf, tableOf, membersIn, wordsOf, formed, wellFormed}
+use Rattle.model.specs.Table.{headerSize, headerOf, recordSize, size, recordsOf, tableOf, membersIn, wordsOf, formed, wellFormed}
 use Rattle.model.specs.Answer.{accepted, declined}
-use Rattle.model.specs.Image.{bytesOf, field, memberFields, imageOf, fieldMembers, imageR, imageCount, tableIn, isImage}
+use Rattle.model.specs.Image.{bytesOf, field, headerField, memberFields, imageOf, imageR, imageCount, tableIn, isImage}
 use Rattle.model.specs.Refusals.{writeRefusal, readRefusal}
 use Rattle.model.specs.Calls.{writeAnswer, writeBytes, readAnswer, readWords}
 use Rattle.laws.specs.Lists.{and-true, same-eq}
@@ -31,7 +30,7 @@ front v l = rw zero-add
 
 module _ (ws : List ℕ) (w : wellFormed ws ≡ true) where
   lists : Lengths (getD ws 0 0) (membersIn ws)
-  lists = formed-lists space (tableOf ws) (wellFormed-facts ws w .table)
+  lists = formed-lists (tableOf ws) (wellFormed-facts ws w .table)
 
   counted : length (membersIn ws) ≡ getD ws 1 0
   counted = members-length (getD ws 0 0) (getD ws 1 0) (drop headerSize ws)
@@ -40,16 +39,20 @@ module _ (ws : List ℕ) (w : wellFormed ws ≡ true) where
   pub image-bytes : length (imageOf (tableOf ws)) ≡ imageSize (getD ws 0 0) (getD ws 1 0)
   image-bytes = image-length (tableOf ws) lists ∙ ap (imageSize (getD ws 0 0)) counted
 
+  -- the words of the header are what the first field says
+  pub header-bytes : headerBytes (getD ws 0 0) (getD ws 1 0) (getD ws 2 0) ≡ headerField (tableOf ws)
+  header-bytes = ap (λ (n : ℕ). headerBytes (getD ws 0 0) n (getD ws 2 0)) (sym counted)
+
   -- `write_image`: the first field, the members' fields and the last one
-  pub image-written : (end : ℕ) (out o1 o2 o3 : List ℕ) → end ≡ firstSize + getD ws 1 0 * fieldSize (getD ws 0 0) → imageSize (getD ws 0 0) (getD ws 1 0) ≤ length out → o1 ≡ placed 0 (headerBytes (getD ws 0 0) (getD ws 1 0) (getD ws 2 0)) out → o2 ≡ placed firstSize (memberFields (membersIn ws)) o1 → o3 ≡ placed end (3 ∷ bytesOf 2 0) o2 → o3 ≡ placed 0 (imageOf (tableOf ws)) out
-  image-written end out o1 o2 o3 q fits e1 e2 e3 =
-      let head : List ℕ = headerBytes (getD ws 0 0) (getD ws 1 0) (getD ws 2 0) in
+  pub image-written : (end : ℕ) (head out o1 o2 o3 : List ℕ) → head ≡ headerField (tableOf ws) → end ≡ firstSize + getD ws 1 0 * fieldSize (getD ws 0 0) → imageSize (getD ws 0 0) (getD ws 1 0) ≤ length out → o1 ≡ placed 0 head out → o2 ≡ placed firstSize (memberFields (membersIn ws)) o1 → o3 ≡ placed end (3 ∷ bytesOf 2 0) o2 → o3 ≡ placed 0 (imageOf (tableOf ws)) out
+  image-written end head out o1 o2 o3 eh q fits e1 e2 e3 =
       let fields : List ℕ = memberFields (membersIn ws) in
-      let f2 : o2 ≡ placed 0 (head ++ fields) out = placed-then 0 firstSize head fields out o1 o2 (omega arith) refl e1 e2 in
-      let n : length (head ++ fields) ≡ end = rw (length-append, fields-length (getD ws 0 0) (membersIn ws) lists, counted) (sym q) in
+      let l : length head ≡ firstSize = ap length eh in
+      let f2 : o2 ≡ placed 0 (head ++ fields) out = placed-then 0 firstSize head fields out o1 o2 (omega arith) l e1 e2 in
+      let n : length (head ++ fields) ≡ end = rw (length-append, l, fields-length (getD ws 0 0) (membersIn ws) lists, counted) (sym q) in
       let z : 0 + end ≡ end = omega arith in
       let f3 : o3 ≡ placed 0 (head ++ fields ++ field 3 []) out = placed-then 0 end (head ++ fields) (field 3 []) out o2 o3 (omega arith) n f2 (rw z e3) in
-      f3 ∙ ap (λ (v : List ℕ). placed 0 v out) (append-assoc head fields (field 3 []) ∙ ap (λ (k : ℕ). headerBytes (getD ws 0 0) k (getD ws 2 0) ++ (fields ++ field 3 [])) (sym counted))
+      f3 ∙ ap (λ (v : List ℕ). placed 0 v out) (append-assoc head fields (field 3 []) ∙ ap (λ (k : List ℕ). k ++ (fields ++ field 3 [])) eh)
 
 -- the answers of `write`
 module _ (ws bs : List ℕ) where
@@ -73,12 +76,15 @@ module _ (ws bs : List ℕ) where
 
 -- Reading
 
+-- the numbers that the first field says are the header
+pub header-read : (bs : List ℕ) (r n s : ℕ) → r ≡ imageR bs → n ≡ imageCount bs → s ≡ imageSteps bs → r ∷ n ∷ s ∷ [] ≡ headerOf (tableIn bs)
+header-read bs r n s er en es = rw (er, en, es, in-length (imageR bs) (imageCount bs) (drop firstSize bs))
+
 -- `read_image`: the header and the records
-pub table-read : (bs t last : List ℕ) (r n s : ℕ) → r ≡ imageR bs → n ≡ imageCount bs → s ≡ imageSteps bs → headerSize ≤ length t → last ≡ placed headerSize (recordsOf (fieldMembers r n (drop firstSize bs))) (sets t 0 (r ∷ n ∷ s ∷ [])) → last ≡ placed 0 (wordsOf (tableIn bs)) t
-table-read bs t last r n s er en es h e =
-    let header : List ℕ = r ∷ n ∷ s ∷ [] in
-    let words : r ∷ n ∷ s ∷ recordsOf (fieldMembers r n (drop firstSize bs)) ≡ wordsOf (tableIn bs) = rw (er, en, es, in-length (imageR bs) (imageCount bs) (drop firstSize bs)) in
-    placed-then 0 headerSize header (recordsOf (fieldMembers r n (drop firstSize bs))) t (sets t 0 header) last (omega arith) refl (sets-eq header t 0 (omega arith)) e ∙ ap (λ (v : List ℕ). placed 0 v t) words
+pub table-read : (bs t last header : List ℕ) → header ≡ headerOf (tableIn bs) → headerSize ≤ length t → last ≡ placed headerSize (recordsOf (tableIn bs .members)) (sets t 0 header) → last ≡ placed 0 (wordsOf (tableIn bs)) t
+table-read bs t last header q h e =
+    let l : length header ≡ headerSize = ap length q in
+    placed-then 0 headerSize header (recordsOf (tableIn bs .members)) t (sets t 0 header) last (omega arith) l (sets-eq header t 0 (omega arith)) e ∙ ap (λ (v : List ℕ). placed 0 (v ++ recordsOf (tableIn bs .members)) t) q
 
 -- the sizes of an image
 pub record Sizes (bs : List ℕ) : Type 0 where
@@ -89,8 +95,8 @@ pub record Sizes (bs : List ℕ) : Type 0 where
 pub image-sizes : (bs : List ℕ) → isImage bs ≡ true → Sizes bs
 unfolding isImage
 image-sizes bs h =
-    let a = and-true (formed space (tableIn bs)) _ h in
-    let f = formed-facts space (tableIn bs) (a .0) in
+    let a = and-true (formed (tableIn bs)) _ h in
+    let f = formed-facts (tableIn bs) (a .0) in
     let n = in-length (imageR bs) (imageCount bs) (drop firstSize bs) in
     record {
       r-high = f .r-high;

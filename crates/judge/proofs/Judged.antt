@@ -10,11 +10,11 @@ use lib.Dec.{leb, ltb, eqb, leb·zero}
 use lib.ListN.{length, take, drop, take-append-drop, length-drop, length-take, drop-of-length-le}
 use borrow.Author.Tests.{eqb-true, eqb-false, eq-eqb, ne-eqb, lt-ltb, le-leb, lt-leb}
 use Rattle.model.specs.Lists.{every, same, rising, risingFrom}
-use Rattle.model.specs.Identifier.{space}
-use Rattle.model.specs.Table.{Member, recordSize, recordOf, ids, formedMember, formed}
-use Rattle.model.specs.Image.{bytesOf, numberFrom, numberAt, numbersAt, field, memberField, memberFields, imageOf, fieldHead, headerLength, memberLength, fieldMember, fieldMembers, imageR, imageCount, tableIn, isImage}
+use Rattle.model.specs.Table.{spaceOf, wordLimit, Member, recordSize, recordOf, ids, formedMember, formed}
+use Rattle.model.specs.Image.{numberFrom, numberAt, numbersAt, field, memberField, memberFields, imageOf, fieldHead, headerLength, memberLength, fieldMember, fieldMembers, imageR, imageCount, tableIn, isImage}
 use Rattle.laws.specs.Lists.{same-eq}
-use Rattle.laws.specs.Bytes.{Bytes, bytes-drop, number-below, numbers-length, words-said, fieldSize, contents, contents-written, cut, said-at, image-length, in-length, in-lists}
+use Rattle.laws.specs.Tables.{space-words}
+use Rattle.laws.specs.Bytes.{Bytes, bytes-drop, number-below, numbers-length, words-said, fieldSize, contents, contents-written, headerContents, header-said, image-length, in-length, in-lists}
 use Rattle.table.specs.Tests.{rightPending}
 use Rattle.table.proofs.Formed.{Bounded, member-right}
 use Rattle.fields.specs.Fields.{firstSize, imageSize, headIs, imageSteps, idIn}
@@ -72,9 +72,9 @@ words-below r bs h l (suc zero) = number-below 4 4 bs h (omega arith)
 words-below r bs h l (suc (suc zero)) = omega (arith, number-below 1 8 bs h (omega arith))
 words-below r bs h l (suc (suc (suc i))) = rw (words-said r bs) at (numbers-below (recordSize r - 3) (drop 9 bs) (bytes-drop 9 bs h) (rw length-drop (omega arith)) i)
 
--- so what is pending is left to test
-member-tests : (r : ℕ) (bs : List ℕ) → Bytes bs → memberLength r ≤ length bs → formedMember space r (fieldMember r bs) ≡ rightPending (numberAt bs 8 1) (numberAt bs 9 4)
-member-tests r bs h l = member-right r (fieldMember r bs) (numbers-length r (drop 13 bs)) (words-below r bs h l)
+-- so, in a space that has every word, what is pending is left to test
+member-tests : (w : ℕ) → wordLimit ≤ w → (r : ℕ) (bs : List ℕ) → Bytes bs → memberLength r ≤ length bs → formedMember w r (fieldMember r bs) ≡ rightPending (numberAt bs 8 1) (numberAt bs 9 4)
+member-tests w all r bs h l = member-right w all r (fieldMember r bs) (numbers-length r (drop 13 bs)) (words-below r bs h l)
 
 regroup : (h a f r e s : Bool) → ((a && r) && (f && e) && (h && s)) ≡ ((h && a && f) && (r && e && s))
 regroup true true true r e s = refl
@@ -88,12 +88,12 @@ swap true h s = refl
 swap false h s = sym (and-false h)
 
 -- what document 01 asks of n members' fields and of the last one
-abbrev asked : ℕ → ℕ → List ℕ → Bool → Bool
-asked r n bs rise = rise && every (formedMember space r) (fieldMembers r n bs) && same (memberFields (fieldMembers r n bs) ++ field 3 []) bs
+abbrev asked : ℕ → ℕ → ℕ → List ℕ → Bool → Bool
+asked w r n bs rise = rise && every (formedMember w r) (fieldMembers r n bs) && same (memberFields (fieldMembers r n bs) ++ field 3 []) bs
 
-module _ (r : ℕ) (hr : r ≤ 8) where
+module _ (w : ℕ) (all : wordLimit ≤ w) (r : ℕ) (hr : r ≤ 8) where
   -- the first of them: the test a of its identifier, and those of the others
-  one-field : (n lo : ℕ) (bs : List ℕ) (a rise : Bool) → Bytes bs → length bs ≡ suc n * fieldSize r + fieldHead → a ≡ leb lo (idIn bs) → asked r n (drop (fieldSize r) bs) rise ≡ fieldsRight r (idIn bs + 1) n (drop (fieldSize r) bs) → asked r (suc n) bs (a && rise) ≡ fieldsRight r lo (suc n) bs
+  one-field : (n lo : ℕ) (bs : List ℕ) (a rise : Bool) → Bytes bs → length bs ≡ suc n * fieldSize r + fieldHead → a ≡ leb lo (idIn bs) → asked w r n (drop (fieldSize r) bs) rise ≡ fieldsRight r (idIn bs + 1) n (drop (fieldSize r) bs) → asked w r (suc n) bs (a && rise) ≡ fieldsRight r lo (suc n) bs
   unfolding fieldRight
   one-field n lo bs a rise h l e ih =
       let s = suc-mul n (fieldSize r) in
@@ -104,25 +104,25 @@ module _ (r : ℕ) (hr : r ≤ 8) where
       let hf = bytes-drop fieldHead bs h in
       let lf : memberLength r ≤ length f = rw length-drop (omega arith) in
       let head : Bool = headIs bs 2 (memberLength r) in
-      let others : Bool = every (formedMember space r) (fieldMembers r n rest) in
+      let others : Bool = every (formedMember w r) (fieldMembers r n rest) in
       let bytes : same ((memberField m ++ memberFields (fieldMembers r n rest)) ++ field 3 []) bs ≡ (head && same z rest) = ap (λ (v : List ℕ). same v bs) (append-assoc (memberField m) (memberFields (fieldMembers r n rest)) (field 3 [])) ∙ same-field 2 (memberLength r) (contents m) z bs h (omega arith) (omega arith) (contents-written r f hf lf) in
-      ap (λ (x : Bool). (a && rise) && (formedMember space r m && others) && x) bytes
-      ∙ regroup head a (formedMember space r m) rise others (same z rest)
-      ∙ ap₂ (λ (p q : Bool). p && q) (ap₂ (λ (u v : Bool). head && u && v) e (member-tests r f hf lf)) ih
+      ap (λ (x : Bool). (a && rise) && (formedMember w r m && others) && x) bytes
+      ∙ regroup head a (formedMember w r m) rise others (same z rest)
+      ∙ ap₂ (λ (p q : Bool). p && q) (ap₂ (λ (u v : Bool). head && u && v) e (member-tests w all r f hf lf)) ih
 
-  no-field : (bs : List ℕ) (rise : Bool) → Bytes bs → length bs ≡ 0 * fieldSize r + fieldHead → rise ≡ true → asked r 0 bs rise ≡ headIs bs 3 0
+  no-field : (bs : List ℕ) (rise : Bool) → Bytes bs → length bs ≡ 0 * fieldSize r + fieldHead → rise ≡ true → asked w r 0 bs rise ≡ headIs bs 3 0
   no-field bs rise h l e = rw (e, same-field 3 0 [] [] bs h (omega arith) (omega arith) refl, drop-of-length-le bs {i = fieldHead} (omega arith), and-true)
 
   rest-fits : (n : ℕ) (bs : List ℕ) → length bs ≡ suc n * fieldSize r + fieldHead → length (drop (fieldSize r) bs) ≡ n * fieldSize r + fieldHead
   rest-fits n bs l = rw length-drop (omega (arith, suc-mul n (fieldSize r)))
 
-  later-fields : (n lo : ℕ) (bs : List ℕ) → Bytes bs → length bs ≡ n * fieldSize r + fieldHead → asked r n bs (risingFrom lo (ids (fieldMembers r n bs))) ≡ fieldsRight r (lo + 1) n bs
+  later-fields : (n lo : ℕ) (bs : List ℕ) → Bytes bs → length bs ≡ n * fieldSize r + fieldHead → asked w r n bs (risingFrom lo (ids (fieldMembers r n bs))) ≡ fieldsRight r (lo + 1) n bs
   later-fields zero lo bs h l = no-field bs true h l refl
   later-fields (suc n) lo bs h l =
       let rest : List ℕ = drop (fieldSize r) bs in
       one-field n (lo + 1) bs (ltb lo (idIn bs)) _ h l (rw (add-one lo)) (later-fields n (idIn bs) rest (bytes-drop (fieldSize r) bs h) (rest-fits n bs l))
 
-  all-fields : (n : ℕ) (bs : List ℕ) → Bytes bs → length bs ≡ n * fieldSize r + fieldHead → asked r n bs (rising (ids (fieldMembers r n bs))) ≡ fieldsRight r 0 n bs
+  all-fields : (n : ℕ) (bs : List ℕ) → Bytes bs → length bs ≡ n * fieldSize r + fieldHead → asked w r n bs (rising (ids (fieldMembers r n bs))) ≡ fieldsRight r 0 n bs
   all-fields zero bs h l = no-field bs true h l refl
   all-fields (suc n) bs h l =
       let rest : List ℕ = drop (fieldSize r) bs in
@@ -131,20 +131,13 @@ module _ (r : ℕ) (hr : r ≤ 8) where
 -- The whole image
 
 module _ (bs : List ℕ) (h : Bytes bs) where
-  -- the first field's contents
-  header-bytes : firstSize ≤ length bs → bytesOf 1 (imageR bs) ++ (bytesOf 2 (imageCount bs) ++ bytesOf 4 (imageSteps bs)) ≡ take headerLength (drop fieldHead bs)
-  header-bytes l = cut 3 1 6 bs _ _ (said-at 1 3 bs h (omega arith)) (cut 4 2 4 bs _ _ (said-at 2 4 bs h (omega arith)) (said-at 4 6 bs h (omega arith)))
-
-  sizes-right : 1 ≤ imageR bs → imageR bs ≤ 8 → imageCount bs ≤ 256 → firstSize ≤ length bs → formed space (tableIn bs) ≡ (rising (ids (tableIn bs .members)) && every (formedMember space (imageR bs)) (tableIn bs .members))
+  sizes-right : 1 ≤ imageR bs → imageR bs ≤ 8 → imageCount bs ≤ 256 → firstSize ≤ length bs → formed (tableIn bs) ≡ (rising (ids (tableIn bs .members)) && every (formedMember (spaceOf (tableIn bs)) (imageR bs)) (tableIn bs .members))
   unfolding formed
   sizes-right lo hi few l =
-      rw (le-leb 1 (imageR bs) lo, le-leb (imageR bs) 8 hi, in-length (imageR bs) (imageCount bs) (drop firstSize bs), le-leb (imageCount bs) 256 few, lt-ltb (imageSteps bs) space (number-below 4 6 bs h (omega arith)))
+      rw (le-leb 1 (imageR bs) lo, le-leb (imageR bs) 8 hi, in-length (imageR bs) (imageCount bs) (drop firstSize bs), le-leb (imageCount bs) 256 few, lt-ltb (imageSteps bs) wordLimit (number-below 4 6 bs h (omega arith)))
 
   header-first : firstSize ≤ length bs → same (imageOf (tableIn bs)) bs ≡ (headIs bs 1 headerLength && same (memberFields (tableIn bs .members) ++ field 3 []) (drop firstSize bs))
-  header-first l =
-      let counted = in-length (imageR bs) (imageCount bs) (drop firstSize bs) in
-      let contents = ap (λ (n : ℕ). bytesOf 1 (imageR bs) ++ (bytesOf 2 n ++ bytesOf 4 (imageSteps bs))) counted ∙ header-bytes l in
-      same-field 1 headerLength _ (memberFields (tableIn bs .members) ++ field 3 []) bs h (omega arith) l contents
+  header-first l = same-field 1 headerLength (headerContents (tableIn bs)) (memberFields (tableIn bs .members) ++ field 3 []) bs h (omega arith) l (header-said bs h l)
 
   -- bytes whose sizes are right are an image by the tests of their fields
   pub judged : 1 ≤ imageR bs → imageR bs ≤ 8 → imageCount bs ≤ 256 → length bs ≡ imageSize (imageR bs) (imageCount bs) → isImage bs ≡ (headIs bs 1 headerLength && fieldsRight (imageR bs) 0 (imageCount bs) (drop firstSize bs))
@@ -153,17 +146,17 @@ module _ (bs : List ℕ) (h : Bytes bs) where
       let f : List ℕ = drop firstSize bs in
       let lf : length f ≡ imageCount bs * fieldSize (imageR bs) + fieldHead = rw length-drop (omega arith) in
       ap₂ (λ (p q : Bool). p && q) (sizes-right lo hi few (omega arith)) (header-first (omega arith))
-      ∙ swap (rising (ids (tableIn bs .members)) && every (formedMember space (imageR bs)) (tableIn bs .members)) (headIs bs 1 headerLength) _
-      ∙ ap (λ (q : Bool). headIs bs 1 headerLength && q) (all-fields (imageR bs) hi (imageCount bs) f (bytes-drop firstSize bs h) lf)
+      ∙ swap (rising (ids (tableIn bs .members)) && every (formedMember (spaceOf (tableIn bs)) (imageR bs)) (tableIn bs .members)) (headIs bs 1 headerLength) _
+      ∙ ap (λ (q : Bool). headIs bs 1 headerLength && q) (all-fields (spaceOf (tableIn bs)) (omega (arith, space-words (tableIn bs))) (imageR bs) hi (imageCount bs) f (bytes-drop firstSize bs h) lf)
 
 -- bytes of another length are none
 pub wrong-length : (bs : List ℕ) → (length bs ≡ imageSize (imageR bs) (imageCount bs) → ⊥) → isImage bs ≡ false
 unfolding isImage
 wrong-length bs n = go (same (imageOf (tableIn bs)) bs) refl
   where
-    go : (b : Bool) → same (imageOf (tableIn bs)) bs ≡ b → (formed space (tableIn bs) && b) ≡ false
+    go : (b : Bool) → same (imageOf (tableIn bs)) bs ≡ b → (formed (tableIn bs) && b) ≡ false
     go true e = absurd (n (sym (ap length (same-eq (imageOf (tableIn bs)) bs e)) ∙ image-length (tableIn bs) (in-lists (imageR bs) (imageCount bs) (drop firstSize bs)) ∙ ap (imageSize (imageR bs)) (in-length (imageR bs) (imageCount bs) (drop firstSize bs))))
-    go false e = and-false (formed space (tableIn bs))
+    go false e = and-false (formed (tableIn bs))
 
 -- nor are those with another r, or with more members
 module _ (bs : List ℕ) where

@@ -7,13 +7,12 @@ use native.Mathlib.Nat.{pow-suc, pow-succ', mul-assoc}
 use native.Mathlib.Omega.{arith}
 use lib.ListN.{length, getD, take, drop, length-append, length-drop}
 use lib.Seq.{length-take-le, take-add, drop-at, drop-drop, getD-drop}
-use Rattle.model.specs.Identifier.{space}
-use Rattle.model.specs.Table.{Member, Table, recordSize, recordOf}
-use Rattle.model.specs.Image.{bytesOf, numberFrom, numberAt, words4, field, memberField, memberFields, imageOf, fieldHead, headerLength, memberLength, numbersAt, fieldMember, fieldMembers, tableIn}
+use Rattle.model.specs.Table.{Member, Table, spaceOf, wordLimit, recordSize, recordOf}
+use Rattle.model.specs.Image.{bytesOf, numberFrom, numberAt, words4, field, memberField, memberFields, imageOf, fieldHead, headerLength, memberLength, numbersAt, fieldMember, fieldMembers, imageR, imageCount, tableIn}
 use Rattle.laws.specs.Lists.{In, here, there, in-cons, in-nil}
 use Rattle.laws.specs.Parts.{drop-take, part-of-part}
 use Rattle.laws.specs.Words.{Lengths}
-use Rattle.laws.specs.Tables.{FormedMember, Formed}
+use Rattle.laws.specs.Tables.{FormedMember, Formed, identifiers-fit}
 
 -- A number and its bytes
 
@@ -83,7 +82,7 @@ pub numbers-length : (n : ℕ) (bs : List ℕ) → length (numbersAt n bs) ≡ n
 numbers-length zero bs = refl
 numbers-length (suc n) bs = ap suc (numbers-length n (drop 4 bs))
 
-pub numbers-read : (l rest : List ℕ) → ((e : ℕ) → In e l → e < space) → numbersAt (length l) (words4 l ++ rest) ≡ l
+pub numbers-read : (l rest : List ℕ) → ((e : ℕ) → In e l → e < wordLimit) → numbersAt (length l) (words4 l ++ rest) ≡ l
 numbers-read [] rest h = refl
 numbers-read (x ∷ l) rest h = ap₂ (λ (z : ℕ) (k : List ℕ). z ∷ k) (bytes-say 4 x (h x (here refl))) (numbers-read l rest (λ e i. h e (there i)))
 
@@ -113,17 +112,17 @@ contents-length r m e = omega (arith, words-length (m .successors))
 pub field-length : (r : ℕ) (m : Member) → length (m .successors) ≡ r → length (memberField m) ≡ fieldSize r
 field-length r m e = omega (arith, contents-length r m e)
 
-pub contents-read : (r : ℕ) (m : Member) (rest : List ℕ) → FormedMember space r m → fieldMember r (contents m ++ rest) ≡ m
-contents-read r m rest f = λ i. record {
-  id = bytes-say 4 (m .id) (f .id-small) i;
-  predecessor = bytes-say 4 (m .predecessor) (f .predecessor-small) i;
+pub contents-read : (w r : ℕ) (m : Member) (rest : List ℕ) → w ≤ wordLimit → FormedMember w r m → fieldMember r (contents m ++ rest) ≡ m
+contents-read w r m rest h f = λ i. record {
+  id = bytes-say 4 (m .id) (omega (arith, f .id-small)) i;
+  predecessor = bytes-say 4 (m .predecessor) (omega (arith, f .predecessor-small)) i;
   pending = bytes-say 1 (m .pending) (omega (arith, f .pending-bit)) i;
-  candidate = bytes-say 4 (m .candidate) (f .candidate-small) i;
+  candidate = bytes-say 4 (m .candidate) (omega (arith, f .candidate-small)) i;
   successors = list i;
 }
   where
     list : numbersAt r (words4 (m .successors) ++ rest) ≡ m .successors
-    list = ap (λ (k : ℕ). numbersAt k (words4 (m .successors) ++ rest)) (sym (f .list-length)) ∙ numbers-read (m .successors) rest (f .entries-small)
+    list = ap (λ (k : ℕ). numbersAt k (words4 (m .successors) ++ rest)) (sym (f .list-length)) ∙ numbers-read (m .successors) rest (λ e i. omega (arith, f .entries-small e i))
 
 contents-part : (r k : ℕ) (bs : List ℕ) → memberLength r ≤ k → fieldMember r (take k bs) ≡ fieldMember r bs
 contents-part r k bs h = λ i. record {
@@ -173,21 +172,30 @@ pub fields-length : (r : ℕ) (ms : List Member) → Lengths r ms → length (me
 fields-length r [] h = omega arith
 fields-length r (m ∷ ms) h = rw (length-append (memberField m) (memberFields ms)) (omega (arith, field-length r m (h m (here refl)), fields-length r ms (λ k i. h k (there i))))
 
-pub fields-read : (r : ℕ) (ms : List Member) (rest : List ℕ) → ((m : Member) → In m ms → FormedMember space r m) → fieldMembers r (length ms) (memberFields ms ++ rest) ≡ ms
-fields-read r [] rest h = refl
-fields-read r (m ∷ ms) rest h =
+pub fields-read : (w r : ℕ) (ms : List Member) (rest : List ℕ) → w ≤ wordLimit → ((m : Member) → In m ms → FormedMember w r m) → fieldMembers r (length ms) (memberFields ms ++ rest) ≡ ms
+fields-read w r [] rest k h = refl
+fields-read w r (m ∷ ms) rest k h =
     let f = h m (here refl) in
     let later = memberFields ms ++ rest in
     let apart : (memberField m ++ memberFields ms) ++ rest ≡ memberField m ++ later = append-assoc (memberField m) (memberFields ms) rest in
     let others : drop (fieldSize r) (memberField m ++ later) ≡ later = drop-at (memberField m) later (fieldSize r) (field-length r m (f .list-length)) in
-    ap (fieldMembers r (suc (length ms))) apart ∙ ap₂ (λ (a : Member) (k : List Member). a ∷ k) (contents-read r m later f) (ap (fieldMembers r (length ms)) others ∙ fields-read r ms rest (λ k i. h k (there i)))
+    ap (fieldMembers r (suc (length ms))) apart ∙ ap₂ (λ (a : Member) (k : List Member). a ∷ k) (contents-read w r m later k f) (ap (fieldMembers r (length ms)) others ∙ fields-read w r ms rest k (λ m i. h m (there i)))
 
 -- A table and its image
+
+-- what stands in the first field
+abbrev pub headerContents : Table → List ℕ
+headerContents T = bytesOf 1 (T .r) ++ (bytesOf 2 (length (T .members)) ++ bytesOf 4 (T .steps))
+
+pub header-said : (bs : List ℕ) → Bytes bs → fieldHead + headerLength ≤ length bs → headerContents (tableIn bs) ≡ take headerLength (drop fieldHead bs)
+header-said bs h l =
+    ap (λ (n : ℕ). bytesOf 1 (imageR bs) ++ (bytesOf 2 n ++ bytesOf 4 (tableIn bs .steps))) (in-length (imageR bs) (imageCount bs) (drop (fieldHead + headerLength) bs))
+    ∙ cut 3 1 6 bs _ _ (said-at 1 3 bs h (omega arith)) (cut 4 2 4 bs _ _ (said-at 2 4 bs h (omega arith)) (said-at 4 6 bs h (omega arith)))
 
 pub image-length : (T : Table) → Lengths (T .r) (T .members) → length (imageOf T) ≡ fieldHead + headerLength + fieldHead + length (T .members) * fieldSize (T .r)
 image-length T h = omega (arith, length-append (memberFields (T .members)) (field 3 []), fields-length (T .r) (T .members) h)
 
-pub image-read : (T : Table) → Formed space T → tableIn (imageOf T) ≡ T
+pub image-read : (T : Table) → Formed T → tableIn (imageOf T) ≡ T
 image-read T f = λ i. record { r = sameR i; steps = bytes-say 4 (T .steps) (f .steps-small) i; members = sameMembers i }
   where
     sameR : numberFrom 0 (bytesOf 1 (T .r)) ≡ T .r
@@ -197,4 +205,4 @@ image-read T f = λ i. record { r = sameR i; steps = bytes-say 4 (T .steps) (f .
     sameCount = bytes-say 2 (length (T .members)) (omega (arith, f .count-high))
 
     sameMembers : tableIn (imageOf T) .members ≡ T .members
-    sameMembers = ap₂ (λ (r n : ℕ). fieldMembers r n (memberFields (T .members) ++ field 3 [])) sameR sameCount ∙ fields-read (T .r) (T .members) (field 3 []) (f .each)
+    sameMembers = ap₂ (λ (r n : ℕ). fieldMembers r n (memberFields (T .members) ++ field 3 [])) sameR sameCount ∙ fields-read (spaceOf T) (T .r) (T .members) (field 3 []) (identifiers-fit T f) (f .each)

@@ -54,10 +54,6 @@ module _ (r n : ℕ) (ws : List ℕ) (some : 0 < n) (fits : n * recordSize r ≤
 pub successor-word : (r : ℕ) (ws : List ℕ) → 1 ≤ r → successor (memberOf r ws) ≡ getD ws 4 0
 successor-word r ws h = getD-take r (drop 4 ws) 0 0 h ∙ getD-drop 4 ws 0 0
 
--- the part of a record's words says the same member
-pub member-part : (r w : ℕ) (ws : List ℕ) → w ≡ recordSize r → memberOf r (take w ws) ≡ memberOf r ws
-member-part r w ws e = rw (e, getD-take (recordSize r) ws 0 0 (omega arith), getD-take (recordSize r) ws 1 0 (omega arith), getD-take (recordSize r) ws 2 0 (omega arith), getD-take (recordSize r) ws 3 0 (omega arith), part-of-part 4 r (recordSize r) ws (omega arith))
-
 -- the first eight elements of a list
 abbrev pub eight : List ℕ → List ℕ
 eight ys = getD ys 0 0 ∷ getD ys 1 0 ∷ getD ys 2 0 ∷ getD ys 3 0 ∷ getD ys 4 0 ∷ getD ys 5 0 ∷ getD ys 6 0 ∷ getD ys 7 0 ∷ []

@@ -1,7 +1,7 @@
 -- One stabilize step of the member v, one case at a time: what it replies, and what it makes of the record. Assumes nothing.
 use Prim.Native.Nat.{ℕ}
 use mathlib.Core.Path.{_≡_, refl}
-use mathlib.Core.Bool.{Bool, true, false}
+use mathlib.Core.Bool.{Bool, true, false, not}
 use mathlib.Core.List.{List, [], _∷_}
 use Rattle.model.specs.Lists.{if_then_else_}
 use Rattle.model.specs.Table.{Member}
@@ -16,6 +16,14 @@ module _ (ms : List Member) (v : Member) where
   pub offered-no-better : isBetter ms v ≡ false → adopt (successor v) (named ms (successor v) .successors) v ≡ stabilizeFromSuccessor ms v
   unfolding stabilizeFromSuccessor
   offered-no-better b = rw b
+
+  pub candidate-taken : live ms (v .candidate) ≡ true → clearPending (adopt (v .candidate) (named ms (v .candidate) .successors) v) ≡ stabilizeFromPredecessor ms v
+  unfolding stabilizeFromPredecessor
+  candidate-taken l = rw l
+
+  pub candidate-cleared : live ms (v .candidate) ≡ false → clearPending v ≡ stabilizeFromPredecessor ms v
+  unfolding stabilizeFromPredecessor
+  candidate-cleared l = rw l
 
   pub done-pending : isPending v ≡ true → 2 ∷ successor (stabilizeFromPredecessor ms v) ∷ [] ≡ stabilizeReply ms v
   unfolding stabilizeReply
@@ -47,14 +55,40 @@ module _ (ms : List Member) (v : Member) where
     unfolding stabilize
     step-dead p l = rw (p, l)
 
-    -- a step changes no identifier
-    pub same-id : stabilize w ms v .id ≡ v .id
-    unfolding stabilize stabilizeFromSuccessor stabilizeFromPredecessor
-    same-id = go (isPending v) (live ms (v .candidate)) (live ms (successor v)) (isBetter ms v)
-      where
-        go : (a b d e : Bool) → (if a then clearPending (if b then adopt (v .candidate) (named ms (v .candidate) .successors) v else v) else if d then (if e then awaitCandidate (named ms (successor v) .predecessor) (adopt (successor v) (named ms (successor v) .successors) v) else adopt (successor v) (named ms (successor v) .successors) v) else dropHead w v) .id ≡ v .id
-        go true true d e = refl
-        go true false d e = refl
-        go false b true true = refl
-        go false b true false = refl
-        go false b false e = refl
+-- The five ways of a stabilize step of v, each with what it replies and the record that it leaves
+pub data Way (w : ℕ) (ms : List Member) (v : Member) : List ℕ → Member → Type 0 where
+  takes : isPending v ≡ true → live ms (v .candidate) ≡ true → Way w ms v (2 ∷ v .candidate ∷ []) (clearPending (adopt (v .candidate) (named ms (v .candidate) .successors) v))
+  clears : isPending v ≡ true → live ms (v .candidate) ≡ false → Way w ms v (2 ∷ successor v ∷ []) (clearPending v)
+  drops : isPending v ≡ false → live ms (successor v) ≡ false → Way w ms v (0 ∷ []) (dropHead w v)
+  looks : isPending v ≡ false → live ms (successor v) ≡ true → isBetter ms v ≡ true → Way w ms v (1 ∷ offered ms v ∷ []) (awaitCandidate (offered ms v) (adopt (successor v) (named ms (successor v) .successors) v))
+  settles : isPending v ≡ false → live ms (successor v) ≡ true → isBetter ms v ≡ false → Way w ms v (2 ∷ successor v ∷ []) (adopt (successor v) (named ms (successor v) .successors) v)
+
+module _ (w : ℕ) (ms : List Member) (v : Member) where
+  -- a step goes one of them
+  pub way-of : Way w ms v (stabilizeReply ms v) (stabilize w ms v)
+  unfolding stabilize stabilizeFromSuccessor stabilizeFromPredecessor stabilizeReply
+  way-of = go (isPending v) refl (live ms (v .candidate)) refl (live ms (successor v)) refl (isBetter ms v) refl
+    where
+      go : (a : Bool) → isPending v ≡ a → (b : Bool) → live ms (v .candidate) ≡ b → (c : Bool) → live ms (successor v) ≡ c → (d : Bool) → isBetter ms v ≡ d →
+          Way w ms v
+          (if a then 2 ∷ successor (clearPending (if b then adopt (v .candidate) (named ms (v .candidate) .successors) v else v)) ∷ [] else if not c then 0 ∷ [] else if d then 1 ∷ offered ms v ∷ [] else 2 ∷ successor v ∷ [])
+          (if a then clearPending (if b then adopt (v .candidate) (named ms (v .candidate) .successors) v else v) else if c then (if d then awaitCandidate (offered ms v) (adopt (successor v) (named ms (successor v) .successors) v) else adopt (successor v) (named ms (successor v) .successors) v) else dropHead w v)
+      go true p true l c ec d ed = takes p l
+      go true p false l c ec d ed = clears p l
+      go false p b eb true l true e = looks p l e
+      go false p b eb true l false e = settles p l e
+      go false p b eb false l d ed = drops p l
+
+-- whichever way: a step changes neither identifier nor predecessor
+way-id : {w : ℕ} {ms : List Member} {v : Member} {l : List ℕ} {u : Member} → Way w ms v l u → (u .id ≡ v .id) × (u .predecessor ≡ v .predecessor)
+way-id (takes p l) = (refl, refl)
+way-id (clears p l) = (refl, refl)
+way-id (drops p l) = (refl, refl)
+way-id (looks p l e) = (refl, refl)
+way-id (settles p l e) = (refl, refl)
+
+pub same-id : (ms : List Member) (v : Member) (w : ℕ) → stabilize w ms v .id ≡ v .id
+same-id ms v w = way-id (way-of w ms v) .0
+
+pub same-predecessor : (ms : List Member) (v : Member) (w : ℕ) → stabilize w ms v .predecessor ≡ v .predecessor
+same-predecessor ms v w = way-id (way-of w ms v) .1

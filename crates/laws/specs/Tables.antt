@@ -8,8 +8,9 @@ use lib.Dec.{ltb, eqb}
 use lib.ListN.{length}
 use borrow.Author.Tests.{ltb-true, leb-true, eqb-true, lt-ltb, le-leb, eq-eqb, ne-eqb}
 use Rattle.model.specs.Identifier.{space}
-use Rattle.model.specs.Table.{Member, Table, wordLimit, headerSize, recordSize, size, tableOf, ids, formedMember, formed, wellFormed}
+use Rattle.model.specs.Table.{Member, idle, Table, tableWith, spaceOf, wordLimit, headerSize, recordSize, size, tableOf, ids, formedMember, formed, wellFormed}
 use Rattle.model.specs.Ring.{hasLive, principals, candidateInside, sound, nextDown, nextUps, idealMember, ideal}
+use Rattle.model.specs.Steps.{withSuccessors, withPredecessor, withPending, withMembers, withSteps}
 use Rattle.model.specs.Calls.{written, writtenFreed}
 use Rattle.model.specs.Lists.{same}
 use Rattle.laws.specs.Lists.{In, here, there, and-true, true-and, same-eq, same-refl, every-in, in-every, Rising, rising-true, true-rising}
@@ -25,20 +26,45 @@ pub record FormedMember (w r : ℕ) (m : Member) : Type 0 where
   pub candidate-small : m .candidate < w
   pub entries-small : (e : ℕ) → In e (m .successors) → e < w
 
+-- with nothing pending; and with another list, another candidate, another predecessor
+pub idle-formed : (w r x p : ℕ) (l : List ℕ) → x < w → p < w → length l ≡ r → ((e : ℕ) → In e l → e < w) → FormedMember w r (idle x p l)
+idle-formed w r x p l hx hp n h = record { pending-bit = omega arith; no-candidate = λ q. refl; list-length = n; id-small = hx; predecessor-small = hp; candidate-small = omega arith; entries-small = h }
+
+module _ {w r : ℕ} {m : Member} (f : FormedMember w r m) where
+  pub list-formed : (l : List ℕ) → length l ≡ r → ((e : ℕ) → In e l → e < w) → FormedMember w r (withSuccessors l m)
+  list-formed l n h = record { pending-bit = f .pending-bit; no-candidate = f .no-candidate; list-length = n; id-small = f .id-small; predecessor-small = f .predecessor-small; candidate-small = f .candidate-small; entries-small = h }
+
+  pub pending-formed : (b c : ℕ) → b ≤ 1 → (b ≡ 0 → c ≡ 0) → c < w → FormedMember w r (withPending b c m)
+  pending-formed b c hb hc h = record { pending-bit = hb; no-candidate = hc; list-length = f .list-length; id-small = f .id-small; predecessor-small = f .predecessor-small; candidate-small = h; entries-small = f .entries-small }
+
+  pub predecessor-formed : (p : ℕ) → p < w → FormedMember w r (withPredecessor p m)
+  predecessor-formed p h = record { pending-bit = f .pending-bit; no-candidate = f .no-candidate; list-length = f .list-length; id-small = f .id-small; predecessor-small = h; candidate-small = f .candidate-small; entries-small = f .entries-small }
+
 -- a table is well-formed
-pub record Formed (w : ℕ) (T : Table) : Type 0 where
+pub record Formed (T : Table) : Type 0 where
   pub r-low : 1 ≤ T .r
   pub r-high : T .r ≤ 8
   pub count-high : length (T .members) ≤ 256
   pub steps-small : T .steps < wordLimit
   pub ids-rising : Rising (ids (T .members))
-  pub each : (m : Member) → In m (T .members) → FormedMember w (T .r) m
+  pub each : (m : Member) → In m (T .members) → FormedMember (spaceOf T) (T .r) m
+
+-- of r and members alone; with other members; with another step count
+pub table-formed : (r : ℕ) (ms : List Member) → 1 ≤ r → r ≤ 8 → length ms ≤ 256 → Rising (ids ms) → ((m : Member) → In m ms → FormedMember (spaceOf (tableWith r ms)) r m) → Formed (tableWith r ms)
+table-formed r ms low high few rise each = record { r-low = low; r-high = high; count-high = few; steps-small = omega arith; ids-rising = rise; each = each }
+
+module _ {T : Table} (f : Formed T) where
+  pub members-formed : (ns : List Member) → length ns ≤ 256 → Rising (ids ns) → ((m : Member) → In m ns → FormedMember (spaceOf T) (T .r) m) → Formed (withMembers ns T)
+  members-formed ns few rise each = record { r-low = f .r-low; r-high = f .r-high; count-high = few; steps-small = f .steps-small; ids-rising = rise; each = each }
+
+  pub steps-formed : (s : ℕ) → s < wordLimit → Formed (withSteps s T)
+  steps-formed s h = record { r-low = f .r-low; r-high = f .r-high; count-high = f .count-high; steps-small = h; ids-rising = f .ids-rising; each = f .each }
 
 -- a slice holds a well-formed table
 pub record WellFormed (ws : List ℕ) : Type 0 where
   pub header : headerSize ≤ length ws
   pub fits : size (tableOf ws) ≤ length ws
-  pub table : Formed space (tableOf ws)
+  pub table : Formed (tableOf ws)
 
 -- a table is sound
 pub record Sound (T : Table) : Type 0 where
@@ -53,6 +79,15 @@ pub record IdealMember (r : ℕ) (xs : List ℕ) (m : Member) : Type 0 where
 
 pub record Ideal (T : Table) : Type 0 where
   pub each : (m : Member) → In m (T .members) → IdealMember (T .r) (ids (T .members)) m
+
+-- what fits a word is an identifier of every table
+pub space-words : (T : Table) → spaceOf T ≡ wordLimit
+unfolding space
+space-words T = refl
+
+-- and an identifier of a well-formed one fits a word
+pub identifiers-fit : (T : Table) → Formed T → spaceOf T ≤ wordLimit
+identifiers-fit T f = omega (arith, space-words T)
 
 -- pending is 1, or there is no candidate
 no-candidate-of : (p c : ℕ) → (eqb p 1 || eqb c 0) ≡ true → p ≡ 0 → c ≡ 0
@@ -86,9 +121,9 @@ member-formed w r m f =
     true-and (true-and (true-and (le-leb _ _ (f .pending-bit)) (of-no-candidate (m .pending) (m .candidate) (f .pending-bit) (f .no-candidate))) (eq-eqb _ _ (f .list-length)))
     (true-and (lt-ltb _ _ (f .id-small)) (true-and (lt-ltb _ _ (f .predecessor-small)) (true-and (lt-ltb _ _ (f .candidate-small)) (in-every (λ x. ltb x w) (m .successors) (λ e i. lt-ltb e w (f .entries-small e i))))))
 
-pub formed-facts : (w : ℕ) (T : Table) → formed w T ≡ true → Formed w T
+pub formed-facts : (T : Table) → formed T ≡ true → Formed T
 unfolding formed
-formed-facts w T h =
+formed-facts T h =
     let a = and-true _ _ h in
     let b = and-true _ _ (a .0) in
     let c = and-true _ _ (b .0) in
@@ -100,25 +135,25 @@ formed-facts w T h =
       count-high = leb-true _ _ (d .1);
       steps-small = ltb-true _ _ (c .1);
       ids-rising = rising-true (ids (T .members)) (b .1);
-      each = λ m i. formed-member w (T .r) m (every-in (formedMember w (T .r)) (a .1) i);
+      each = λ m i. formed-member (spaceOf T) (T .r) m (every-in (formedMember (spaceOf T) (T .r)) (a .1) i);
     }
 
-pub facts-formed : (w : ℕ) (T : Table) → Formed w T → formed w T ≡ true
+pub facts-formed : (T : Table) → Formed T → formed T ≡ true
 unfolding formed
-facts-formed w T f =
+facts-formed T f =
     true-and (true-and (true-and (true-and (true-and (le-leb _ _ (f .r-low)) (le-leb _ _ (f .r-high))) (le-leb _ _ (f .count-high))) (lt-ltb _ _ (f .steps-small))) (true-rising (ids (T .members)) (f .ids-rising)))
-    (in-every (formedMember w (T .r)) (T .members) (λ m i. member-formed w (T .r) m (f .each m i)))
+    (in-every (formedMember (spaceOf T) (T .r)) (T .members) (λ m i. member-formed (spaceOf T) (T .r) m (f .each m i)))
 
 pub wellFormed-facts : (ws : List ℕ) → wellFormed ws ≡ true → WellFormed ws
 unfolding wellFormed
 wellFormed-facts ws h =
     let a = and-true _ _ h in
     let b = and-true _ _ (a .0) in
-    record { header = leb-true _ _ (b .0); fits = leb-true _ _ (b .1); table = formed-facts space (tableOf ws) (a .1) }
+    record { header = leb-true _ _ (b .0); fits = leb-true _ _ (b .1); table = formed-facts (tableOf ws) (a .1) }
 
 pub facts-wellFormed : (ws : List ℕ) → WellFormed ws → wellFormed ws ≡ true
 unfolding wellFormed
-facts-wellFormed ws f = true-and (true-and (le-leb _ _ (f .header)) (le-leb _ _ (f .fits))) (facts-formed space (tableOf ws) (f .table))
+facts-wellFormed ws f = true-and (true-and (le-leb _ _ (f .header)) (le-leb _ _ (f .fits))) (facts-formed (tableOf ws) (f .table))
 
 pub sound-facts : (T : Table) → sound T ≡ true → Sound T
 unfolding sound
@@ -149,18 +184,18 @@ facts-ideal T d = in-every (idealMember (T .r) (ids (T .members))) (T .members) 
 
 -- A slice that holds a well-formed table, no shorter than it
 
-pub holds-formed : (T : Table) (ws : List ℕ) → tableOf ws ≡ T → Formed space T → size T ≤ length ws → WellFormed ws
+pub holds-formed : (T : Table) (ws : List ℕ) → tableOf ws ≡ T → Formed T → size T ≤ length ws → WellFormed ws
 holds-formed T ws e f h = record { header = omega arith; fits = omega (arith, ap size e); table = rw e f }
 
-pub formed-lists : (w : ℕ) (T : Table) → Formed w T → Lengths (T .r) (T .members)
-formed-lists w T f m i = f .each m i .list-length
+pub formed-lists : (T : Table) → Formed T → Lengths (T .r) (T .members)
+formed-lists T f m i = f .each m i .list-length
 
-pub written-formed : (T : Table) (ws : List ℕ) → Formed space T → size T ≤ length ws → WellFormed (written T ws)
+pub written-formed : (T : Table) (ws : List ℕ) → Formed T → size T ≤ length ws → WellFormed (written T ws)
 written-formed T ws f h =
-    let lists = formed-lists space T f in
+    let lists = formed-lists T f in
     holds-formed T (written T ws) (written-table T ws lists) f (omega (arith, written-length T ws lists h))
 
-pub writtenFreed-formed : (T : Table) (ws : List ℕ) → Formed space T → size T + recordSize (T .r) ≤ length ws → WellFormed (writtenFreed T ws)
+pub writtenFreed-formed : (T : Table) (ws : List ℕ) → Formed T → size T + recordSize (T .r) ≤ length ws → WellFormed (writtenFreed T ws)
 writtenFreed-formed T ws f h =
-    let lists = formed-lists space T f in
+    let lists = formed-lists T f in
     holds-formed T (writtenFreed T ws) (writtenFreed-table T ws lists) f (omega (arith, writtenFreed-length T ws lists h))

@@ -1,14 +1,16 @@
 -- A table and its words: what is written is read back, and as many words as the table's size.
 use mathlib.Core.Path.{_≡_, refl, sym, ap, ap₂, _∙_}
-use mathlib.Core.List.{List, [], _∷_, _++_, append-assoc}
+use mathlib.Core.Logic.{⊎-elim}
+use mathlib.Core.List.{List, [], _∷_, _++_, append-assoc, append-nil}
 use Prim.Native.Nat.{ℕ, zero, suc, _+_, _*_, _≤_}
 use native.Mathlib.Omega.{arith}
-use lib.ListN.{length, take, drop, replicate, take-append-drop, length-append, length-drop, length-replicate}
+use lib.ListN.{length, getD, take, drop, set, replicate, take-append-drop, length-append, length-take, length-drop, length-replicate}
 use lib.Seq.{length-take-le, take-at, drop-at, take-add}
 use Rattle.model.specs.Lists.{overlay}
-use Rattle.model.specs.Table.{Member, Table, headerSize, recordSize, size, memberOf, recordOf, membersOf, recordsOf, tableOf, wordsOf}
+use Rattle.model.specs.Table.{Member, Table, headerSize, headerOf, recordSize, size, memberOf, recordOf, membersOf, recordsOf, tableOf, wordsOf}
+use Rattle.model.specs.Steps.{withMembers}
 use Rattle.model.specs.Calls.{written, writtenFreed}
-use Rattle.laws.specs.Lists.{In, here, there}
+use Rattle.laws.specs.Lists.{In, here, there, in-cons}
 
 -- each member's list has r entries
 abbrev pub Lengths : ℕ → List Member → Type 0
@@ -21,6 +23,14 @@ record-length r m e = omega arith
 
 pub record-read : (r : ℕ) (m : Member) (rest : List ℕ) → length (m .successors) ≡ r → memberOf r (recordOf m ++ rest) ≡ m
 record-read r m rest e = λ i. record { id = m .id; predecessor = m .predecessor; pending = m .pending; candidate = m .candidate; successors = take-at (m .successors) rest r e i }
+
+-- what a slice's first words say is a member with r entries
+pub record-list : (r : ℕ) (ws : List ℕ) → recordSize r ≤ length ws → length (memberOf r ws .successors) ≡ r
+record-list r ws h = simp (length-take, length-drop) (omega arith)
+
+-- the identifiers of a member are words of its record
+pub record-has : {x : ℕ} (m : Member) → In x (m .id ∷ m .predecessor ∷ m .candidate ∷ m .successors) → In x (recordOf m)
+record-has m i = ⊎-elim here (λ j. there (⊎-elim here (λ k. there (there k)) (in-cons j))) (in-cons i)
 
 pub records-read : (r : ℕ) (ms : List Member) (rest : List ℕ) → Lengths r ms → membersOf r (length ms) (recordsOf ms ++ rest) ≡ ms
 records-read r [] rest h = refl
@@ -59,6 +69,10 @@ writtenFreed-table T ws h = ap tableOf (append-assoc (wordsOf T) freed _) ∙ wo
     freed : List ℕ
     freed = replicate (recordSize (T .r)) 0
 
+-- the words after it stay as they were
+pub written-rest : (T : Table) (ws : List ℕ) (n : ℕ) → Lengths (T .r) (T .members) → size T ≡ n → drop n (written T ws) ≡ drop n ws
+written-rest T ws n h e = let q : length (wordsOf T) ≡ n = words-length T h ∙ e in drop-at (wordsOf T) (drop (length (wordsOf T)) ws) n q ∙ ap (λ (k : ℕ). drop k ws) q
+
 overlay-length : (new old : List ℕ) → length new ≤ length old → length (overlay new old) ≡ length old
 overlay-length new old h = simp (length-append, length-drop) (omega arith)
 
@@ -77,21 +91,45 @@ record-written r (a ∷ b ∷ []) h = absurd (omega arith)
 record-written r (a ∷ b ∷ c ∷ []) h = absurd (omega arith)
 record-written r (a ∷ b ∷ c ∷ d ∷ l) h = let q : recordSize r ≡ suc (suc (suc (suc r))) = omega arith in rw q
 
+-- so the part of a record's words says the same member
+pub member-part : (r w : ℕ) (ws : List ℕ) → w ≡ recordSize r → w ≤ length ws → memberOf r (take w ws) ≡ memberOf r ws
+member-part r w ws e h =
+    let m = memberOf r ws in
+    let n : recordSize r ≤ length ws = omega arith in
+    ap (λ (k : ℕ). memberOf r (take k ws)) e ∙ ap (memberOf r) (sym (record-written r ws n) ∙ sym (append-nil (recordOf m))) ∙ record-read r m [] (record-list r ws n)
+
 pub records-written : (r n : ℕ) (ws : List ℕ) → n * recordSize r ≤ length ws → recordsOf (membersOf r n ws) ≡ take (n * recordSize r) ws
 records-written r zero ws h = let q : 0 * recordSize r ≡ 0 = omega arith in rw q
 records-written r (suc n) ws h =
     let q : suc n * recordSize r ≡ recordSize r + n * recordSize r = omega arith in
     ap₂ (λ (a b : List ℕ). a ++ b) (record-written r ws (omega arith)) (records-written r n (drop (recordSize r) ws) (rw length-drop (omega arith))) ∙ rw q (sym (take-add (recordSize r) (n * recordSize r) ws))
 
+-- the header of a slice is its first words
+pub header-written : (ws : List ℕ) → headerSize ≤ length ws → headerOf (tableOf ws) ≡ take headerSize ws
+header-written [] h = absurd (omega arith)
+header-written (a ∷ []) h = absurd (omega arith)
+header-written (a ∷ b ∷ []) h = absurd (omega arith)
+header-written (a ∷ b ∷ c ∷ l) h = ap (λ (n : ℕ). a ∷ n ∷ c ∷ []) (members-length a b l)
+
+-- so its first words, up to any after the header, are the header and the first words of the records
+pub header-take : (ws : List ℕ) (n : ℕ) → headerSize ≤ length ws → take (headerSize + n) ws ≡ headerOf (tableOf ws) ++ take n (drop headerSize ws)
+header-take ws n h = take-add headerSize n ws ∙ ap (λ (k : List ℕ). k ++ take n (drop headerSize ws)) (sym (header-written ws h))
+
+-- the header of a table with other members: the count alone is another
+pub header-counted : (T : Table) (ms : List Member) (n : ℕ) (rest : List ℕ) → n ≡ length ms → set (headerOf T ++ rest) 1 n ≡ headerOf (withMembers ms T) ++ rest
+header-counted T ms n rest e = rw e
+
+pub header-same : (T : Table) (ms : List Member) → length ms ≡ length (T .members) → headerOf T ≡ headerOf (withMembers ms T)
+header-same T ms e = rw e
+
 -- a slice that is no shorter than its table: the words of its table are its first, and writing them changes nothing
 pub words-written : (ws : List ℕ) → headerSize ≤ length ws → size (tableOf ws) ≤ length ws → wordsOf (tableOf ws) ≡ take (size (tableOf ws)) ws
-words-written [] h le = absurd (omega arith)
-words-written (a ∷ []) h le = absurd (omega arith)
-words-written (a ∷ b ∷ []) h le = absurd (omega arith)
-words-written (a ∷ b ∷ c ∷ l) h le =
-    let e = members-length a b l in
-    let q : 3 + b * recordSize a ≡ suc (suc (suc (b * recordSize a))) = omega arith in
-    rw (e, q) (ap (λ (k : List ℕ). a ∷ b ∷ c ∷ k) (records-written a b l (omega (arith, ap (λ (n : ℕ). n * recordSize a) e))))
+words-written ws h le =
+    let r : ℕ = getD ws 0 0 in
+    let n : ℕ = getD ws 1 0 in
+    let e = members-length r n (drop headerSize ws) in
+    let fits : n * recordSize r ≤ length (drop headerSize ws) = rw length-drop (omega (arith, ap (λ (k : ℕ). k * recordSize r) e)) in
+    ap₂ (λ (a b : List ℕ). a ++ b) (header-written ws h) (records-written r n (drop headerSize ws) fits) ∙ rw e (sym (take-add headerSize (n * recordSize r) ws))
 
 overlay-take : (n : ℕ) (ws : List ℕ) → n ≤ length ws → overlay (take n ws) ws ≡ ws
 overlay-take n ws h = rw (length-take-le n ws h, take-append-drop)

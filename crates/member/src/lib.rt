@@ -2,7 +2,7 @@
 ghost use mathlib.Core.Path.{_≡_};
 ghost use Prim.Native.Nat.{ℕ, _≤_};
 ghost use lib.ListN.{take};
-ghost use Rattle.model.specs.Identifier.{space};
+ghost use Rattle.model.specs.Table.{wordLimit};
 ghost use Rattle.model.specs.Steps.{dropHead, adopt as adoptOf, awaitCandidate, clearPending, rectify as rectifyOf, renews as renewsOf};
 ghost use Rattle.member.specs.View.{view};
 
@@ -19,7 +19,7 @@ impl Member {
     // The first of r entries is dropped, and the identifier after the last one appended.
     pub fn drop_head(mut self, r: usize) -> Self
         requires { ⌜ (1 ≤ r) × (r ≤ 8) ⌝ }
-        ensures { λ m. ⌜ view r m ≡ dropHead space (view r self) ⌝ }
+        ensures { λ m. ⌜ view r m ≡ dropHead wordLimit (view r self) ⌝ }
     {
         let l = self.successors;
         let mut n = [l[1], l[2], l[3], l[4], l[5], l[6], l[7], 0];

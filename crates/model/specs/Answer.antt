@@ -4,7 +4,7 @@ use mathlib.Core.Bool.{Bool}
 use mathlib.Core.List.{List, [], _∷_}
 use Rattle.model.specs.Lists.{if_then_else_}
 
--- an answer: 0 and the reply's values in document 01's order; or the number that declines the call, and 8's member
+-- an answer: 0 and the reply's values, in the documents' order; or the number that declines the call, and 8's member
 pub record Answer : Type 0 where
   pub number : ℕ
   pub values : List ℕ
@@ -23,7 +23,7 @@ pub record Cause : Type 0 where
   pub applies : Bool
 
 infix 6 _when_
--- a row of document 01's table of causes
+-- a row of document 01's table of causes, and of those that document 02 adds
 abbrev pub _when_ : ℕ → Bool → Cause
 n when b = record { number = n; applies = b }
 

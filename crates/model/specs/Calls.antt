@@ -3,7 +3,6 @@ use Prim.Native.Nat.{ℕ}
 use mathlib.Core.List.{List, [], _∷_, _++_}
 use lib.ListN.{length, replicate}
 use Rattle.model.specs.Lists.{bit, overlay}
-use Rattle.model.specs.Identifier.{space}
 use Rattle.model.specs.Table.{Table, tableOf, membersIn, wordsOf, recordSize}
 use Rattle.model.specs.Ring.{named}
 use Rattle.model.specs.Answer.{Answer, accepted, answer, afterwards}
@@ -39,7 +38,7 @@ unfoldable pub stabilizeAnswer : List ℕ → ℕ → Answer
 stabilizeAnswer ws n = answer (memberRefusal ws n) (accepted (stabilizeReply (membersIn ws) (named (membersIn ws) n)))
 
 unfoldable pub stabilizeWords : List ℕ → ℕ → List ℕ
-stabilizeWords ws n = afterwards (memberRefusal ws n) (written (stabilized space n (tableOf ws)) ws) ws
+stabilizeWords ws n = afterwards (memberRefusal ws n) (written (stabilized n (tableOf ws)) ws) ws
 
 -- Rectify
 
@@ -125,15 +124,15 @@ principalAnswer ws n = answer (memberRefusal ws n) (accepted (principalReply (me
 -- One round
 
 unfoldable pub roundAnswer : List ℕ → Answer
-roundAnswer ws = answer (settleRefusal ws) (accepted (roundReply space (tableOf ws)))
+roundAnswer ws = answer (settleRefusal ws) (accepted (roundReply (tableOf ws)))
 
 unfoldable pub roundWords : List ℕ → List ℕ
-roundWords ws = afterwards (settleRefusal ws) (written (afterRound space (tableOf ws)) ws) ws
+roundWords ws = afterwards (settleRefusal ws) (written (afterRound (tableOf ws)) ws) ws
 
 -- Settle, with at most so many rounds
 
 unfoldable pub settleAnswer : List ℕ → ℕ → Answer
-settleAnswer ws limit = answer (settleRefusal ws) (accepted (settleReply space limit (tableOf ws)))
+settleAnswer ws limit = answer (settleRefusal ws) (accepted (settleReply limit (tableOf ws)))
 
 unfoldable pub settleWords : List ℕ → ℕ → List ℕ
-settleWords ws limit = afterwards (settleRefusal ws) (written (afterSettle space limit (tableOf ws)) ws) ws
+settleWords ws limit = afterwards (settleRefusal ws) (written (afterSettle limit (tableOf ws)) ws) ws

@@ -5,7 +5,7 @@ use lib.Dec.{ltb}
 use Rattle.model.specs.Lists.{if_then_else_}
 
 -- the size of the identifier space: an identifier is any number below it
-abbrev pub space : ℕ
+unfoldable pub space : ℕ
 space = 2 ^ 32
 
 -- n lies strictly inside the way up from a to b, round the end if need be

@@ -6,7 +6,6 @@ use mathlib.Core.Option.{Option, some, none}
 use lib.Dec.{ltb, leb, eqb}
 use lib.ListN.{length, getD, take, drop}
 use Rattle.model.specs.Lists.{if_then_else_, option, same}
-use Rattle.model.specs.Identifier.{space}
 use Rattle.model.specs.Table.{Member, Table, formed}
 use Rattle.model.specs.Answer.{Answer, accepted, declined}
 
@@ -88,7 +87,7 @@ tableIn bs = record { r = imageR bs; steps = numberAt bs 6 4; members = fieldMem
 
 -- bytes are an image: the writing of a well-formed table
 unfoldable pub isImage : List ℕ → Bool
-isImage bs = formed space (tableIn bs) && same (imageOf (tableIn bs)) bs
+isImage bs = formed (tableIn bs) && same (imageOf (tableIn bs)) bs
 
 -- a field that is due: its tag and the length of its contents
 pub record Due : Type 0 where

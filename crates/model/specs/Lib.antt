@@ -1,4 +1,4 @@
--- Document 01 as definitions, in its order, and then what document 02 adds: Held, Pairs, Settle.
+-- Document 01 as definitions, in its order, and then what document 02 adds: Held, Pairs, Settle, Service.
 pub mod Lists
 pub mod Identifier
 pub mod Table
@@ -15,6 +15,7 @@ pub mod Pairs
 pub mod Settle
 pub mod Refusals
 pub mod Calls
+pub mod Fold
 pub mod Run
 pub mod Service
 pub mod Examples

@@ -7,7 +7,7 @@ use lib.Dec.{ltb, leb, eqb}
 use lib.ListN.{length, getD}
 use Rattle.model.specs.Lists.{if_then_else_, option, every, any, count, sum, contains, lastOf, same}
 use Rattle.model.specs.Identifier.{between}
-use Rattle.model.specs.Table.{Member, Table, ids}
+use Rattle.model.specs.Table.{Member, idle, Table, ids}
 
 -- an identifier is live if it is a member's
 abbrev pub live : List Member → ℕ → Bool
@@ -15,7 +15,7 @@ live ms x = contains (ids ms) x
 
 -- no member: what stands for one where there is none
 abbrev pub nobody : Member
-nobody = record { id = 0; predecessor = 0; pending = 0; candidate = 0; successors = [] }
+nobody = idle 0 0 []
 
 -- the member with the identifier x
 abbrev pub named : List Member → ℕ → Member

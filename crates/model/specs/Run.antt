@@ -1,8 +1,9 @@
 -- The seven calls of a list as one type, and the table that a list of them leads to.
 use Prim.Native.Nat.{ℕ}
-use mathlib.Core.Bool.{Bool, true, false, not, _&&_, _||_}
+use mathlib.Core.Bool.{Bool, true, false, not, _||_}
 use mathlib.Core.List.{List, [], _∷_}
 use lib.Dec.{eqb}
+use Rattle.model.specs.Fold.{afterAll, eachMeets}
 use Rattle.model.specs.Answer.{Answer}
 use Rattle.model.specs.Calls.{joinAnswer, joinWords, stabilizeAnswer, stabilizeWords, rectifyAnswer, rectifyWords, failAnswer, failWords, leaveAnswer, leaveWords, lookupAnswer, auditAnswer}
 
@@ -48,8 +49,7 @@ callWords ws Audit = ws
 
 -- the slice after a list of calls, each on what the last one left
 unfoldable pub run : List Call → List ℕ → List ℕ
-run [] ws = ws
-run (c ∷ cs) ws = run cs (callWords ws c)
+run cs ws = afterAll callWords cs ws
 
 -- a call is accepted if no number declines it
 abbrev pub accepts : List ℕ → Call → Bool
@@ -67,8 +67,7 @@ grantedCall ws Audit = true
 
 -- each loss of a list is such a one at its moment
 unfoldable pub granted : List Call → List ℕ → Bool
-granted [] ws = true
-granted (c ∷ cs) ws = grantedCall ws c && granted cs (callWords ws c)
+granted cs ws = eachMeets callWords grantedCall cs ws
 
 -- a call by which a member goes: an accepted withdrawal or loss
 unfoldable pub goes : List ℕ → Call → Bool
@@ -79,8 +78,3 @@ goes ws (Stabilize n) = false
 goes ws (Rectify n q) = false
 goes ws (Lookup n k) = false
 goes ws Audit = false
-
--- by a list of calls no member goes
-unfoldable pub noneGoes : List Call → List ℕ → Bool
-noneGoes [] ws = true
-noneGoes (c ∷ cs) ws = not (goes ws c) && noneGoes cs (callWords ws c)

@@ -1,10 +1,11 @@
 -- Lists in which document 02's rounds and settles stand among the seven calls, and the table that such a list leads to.
 use Prim.Native.Nat.{ℕ}
-use mathlib.Core.Bool.{Bool, true, _&&_}
-use mathlib.Core.List.{List, [], _∷_}
+use mathlib.Core.Bool.{Bool, true, false, not}
+use mathlib.Core.List.{List, []}
+use Rattle.model.specs.Fold.{afterAll, eachMeets}
 use Rattle.model.specs.Answer.{Answer}
 use Rattle.model.specs.Calls.{roundAnswer, roundWords, settleAnswer, settleWords}
-use Rattle.model.specs.Run.{Call, numbersOf, callAnswer, callWords, grantedCall}
+use Rattle.model.specs.Run.{Call, numbersOf, callAnswer, callWords, grantedCall, goes}
 
 -- one of the seven calls, a round, or settle with a limit
 pub data Service : Type 0 where
@@ -32,8 +33,7 @@ serviceWords ws (Settle limit) = settleWords ws limit
 
 -- the slice after a list of them, each on what the last one left
 unfoldable pub served : List Service → List ℕ → List ℕ
-served [] ws = ws
-served (s ∷ ss) ws = served ss (serviceWords ws s)
+served ss ws = afterAll serviceWords ss ws
 
 -- a loss, if accepted, is one that a withdrawal in its place would be granted
 unfoldable pub grantedService : List ℕ → Service → Bool
@@ -43,5 +43,14 @@ grantedService ws (Settle limit) = true
 
 -- each loss of a list is such a one at its moment
 unfoldable pub grantedAll : List Service → List ℕ → Bool
-grantedAll [] ws = true
-grantedAll (s ∷ ss) ws = grantedService ws s && grantedAll ss (serviceWords ws s)
+grantedAll ss ws = eachMeets serviceWords grantedService ss ws
+
+-- by a call a member goes; by a round or a settle none does
+unfoldable pub goesService : List ℕ → Service → Bool
+goesService ws (Called c) = goes ws c
+goesService ws Round = false
+goesService ws (Settle limit) = false
+
+-- by a list of them no member goes
+unfoldable pub noneGoes : List Service → List ℕ → Bool
+noneGoes ss ws = eachMeets serviceWords (λ us s. not (goesService us s)) ss ws

@@ -22,48 +22,48 @@ abbrev pub isDone : ℕ → Table → Bool
 isDone n T = eqb (getD (nextReply n T) 0 0) 2
 
 -- a stabilize step of n that replies "done" and h, and its notice delivered to h
-unfoldable pub lastStep : ℕ → ℕ → Table → Table
-lastStep w n T = delivered n (getD (nextReply n T) 1 0) (stabilized w n T)
+unfoldable pub lastStep : ℕ → Table → Table
+lastStep n T = delivered n (getD (nextReply n T) 1 0) (stabilized n T)
 
 -- a pending step of n, which always replies "done", is finished and its notice delivered
-unfoldable pub finished : ℕ → ℕ → Table → Table
-finished w n T = if isPending (named (T .members) n) then lastStep w n T else T
+unfoldable pub finished : ℕ → Table → Table
+finished n T = if isPending (named (T .members) n) then lastStep n T else T
 
 -- stabilize steps of n until one replies "done", and its notice delivered. The number k bounds the steps: on a sound table r + 1 are enough
-abbrev pub untilDone : ℕ → ℕ → ℕ → Table → Table
-untilDone w zero n T = T
-untilDone w (suc k) n T = if isDone n T then lastStep w n T else untilDone w k n (stabilized w n T)
+abbrev pub untilDone : ℕ → ℕ → Table → Table
+untilDone zero n T = T
+untilDone (suc k) n T = if isDone n T then lastStep n T else untilDone k n (stabilized n T)
 
 -- the table after a turn of n: first a pending step finished, then steps until "done"
-unfoldable pub afterTurn : ℕ → ℕ → Table → Table
-afterTurn w n T = untilDone w (suc (T .r)) n (finished w n T)
+unfoldable pub afterTurn : ℕ → Table → Table
+afterTurn n T = untilDone (suc (T .r)) n (finished n T)
 
 -- after turns of the members ns, in order
-abbrev pub afterTurns : ℕ → List ℕ → Table → Table
-afterTurns w [] T = T
-afterTurns w (n ∷ ns) T = afterTurns w ns (afterTurn w n T)
+abbrev pub afterTurns : List ℕ → Table → Table
+afterTurns [] T = T
+afterTurns (n ∷ ns) T = afterTurns ns (afterTurn n T)
 
 -- after a round: the turn of each member, by rising identifier
-unfoldable pub afterRound : ℕ → Table → Table
-afterRound w T = afterTurns w (ids (T .members)) T
+unfoldable pub afterRound : Table → Table
+afterRound T = afterTurns (ids (T .members)) T
 
 -- after k rounds
-abbrev pub afterRounds : ℕ → ℕ → Table → Table
-afterRounds w zero T = T
-afterRounds w (suc k) T = afterRounds w k (afterRound w T)
+abbrev pub afterRounds : ℕ → Table → Table
+afterRounds zero T = T
+afterRounds (suc k) T = afterRounds k (afterRound T)
 
 -- how many rounds settle runs: the verdict is looked at before each, and 2 ends it, or so many rounds run
-abbrev pub roundsRun : ℕ → ℕ → Table → ℕ
-roundsRun w zero T = 0
-roundsRun w (suc limit) T = if eqb (verdict T) 2 then 0 else suc (roundsRun w limit (afterRound w T))
+abbrev pub roundsRun : ℕ → Table → ℕ
+roundsRun zero T = 0
+roundsRun (suc limit) T = if eqb (verdict T) 2 then 0 else suc (roundsRun limit (afterRound T))
 
 -- the table after settle
-abbrev pub afterSettle : ℕ → ℕ → Table → Table
-afterSettle w limit T = afterRounds w (roundsRun w limit T) T
+abbrev pub afterSettle : ℕ → Table → Table
+afterSettle limit T = afterRounds (roundsRun limit T) T
 
 -- a round replies the verdict after it; settle the rounds run, the verdict, and the entries passed over by all members of the table as it began (document 02, Req 06)
-abbrev pub roundReply : ℕ → Table → List ℕ
-roundReply w T = verdict (afterRound w T) ∷ []
+abbrev pub roundReply : Table → List ℕ
+roundReply T = verdict (afterRound T) ∷ []
 
-abbrev pub settleReply : ℕ → ℕ → Table → List ℕ
-settleReply w limit T = roundsRun w limit T ∷ verdict (afterSettle w limit T) ∷ passedByAll (T .members) ∷ []
+abbrev pub settleReply : ℕ → Table → List ℕ
+settleReply limit T = roundsRun limit T ∷ verdict (afterSettle limit T) ∷ passedByAll (T .members) ∷ []

@@ -4,9 +4,9 @@ use mathlib.Core.Bool.{Bool, not, _||_}
 use mathlib.Core.List.{List, [], _∷_, _++_}
 use lib.Dec.{ltb, eqb}
 use lib.ListN.{length, drop}
-use Rattle.model.specs.Lists.{if_then_else_, option, bit, lastOf, withoutLast}
+use Rattle.model.specs.Lists.{if_then_else_, option, select, bit, lastOf, withoutLast}
 use Rattle.model.specs.Identifier.{between, after}
-use Rattle.model.specs.Table.{Member, Table, wordLimit}
+use Rattle.model.specs.Table.{Member, idle, Table, spaceOf, wordLimit}
 use Rattle.model.specs.Ring.{live, named, successor, isPending, principals, ringMembers, verdict, bestSuccessor, passedBy}
 use Rattle.model.specs.Answer.{Answer, accepted}
 
@@ -34,7 +34,7 @@ withSteps s T = record { r = T .r; steps = s; members = T .members }
 
 -- what j is as a new member by p: predecessor p, p's list, nothing pending
 abbrev pub joiner : List Member → ℕ → ℕ → Member
-joiner ms j p = record { id = j; predecessor = p; pending = 0; candidate = 0; successors = named ms p .successors }
+joiner ms j p = idle j p (named ms p .successors)
 
 -- the members with v among them, in its place by identifier
 abbrev pub inserted : Member → List Member → List Member
@@ -106,8 +106,8 @@ replaced v [] = []
 replaced v (m ∷ ms) = if eqb (m .id) (v .id) then v ∷ ms else m ∷ replaced v ms
 
 -- the table after a stabilize step of n
-abbrev pub stabilized : ℕ → ℕ → Table → Table
-stabilized w n T = withSteps (nextStep (T .steps)) (withMembers (replaced (stabilize w (T .members) (named (T .members) n)) (T .members)) T)
+abbrev pub stabilized : ℕ → Table → Table
+stabilized n T = withSteps (nextStep (T .steps)) (withMembers (replaced (stabilize (spaceOf T) (T .members) (named (T .members) n)) (T .members)) T)
 
 -- Rectify
 
@@ -132,14 +132,21 @@ rectified n q T = withMembers (replaced (rectifyIn (T .members) q (named (T .mem
 
 -- Loss and withdrawal
 
--- the members without n
-abbrev pub removed : ℕ → List Member → List Member
-removed n [] = []
-removed n (m ∷ ms) = if eqb (m .id) n then ms else m ∷ removed n ms
+-- the members that stay where those go of which the test holds
+abbrev pub staying : (Member → Bool) → List Member → List Member
+staying gone ms = select (λ m. not (gone m)) ms
+
+-- the table without these
+abbrev pub withoutThose : (Member → Bool) → Table → Table
+withoutThose gone T = withMembers (staying gone (T .members)) T
+
+-- the member has the identifier n
+abbrev pub isNamed : ℕ → Member → Bool
+isNamed n m = eqb (m .id) n
 
 -- the table without n: after its loss, and after its withdrawal
 abbrev pub without : ℕ → Table → Table
-without n T = withMembers (removed n (T .members)) T
+without n T = withoutThose (isNamed n) T
 
 -- Find
 

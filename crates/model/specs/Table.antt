@@ -19,13 +19,29 @@ pub record Member : Type 0 where
   pub candidate : ℕ
   pub successors : List ℕ
 
+-- a member with nothing pending: its identifier, its predecessor and its list
+abbrev pub idle : ℕ → ℕ → List ℕ → Member
+idle x p l = record { id = x; predecessor = p; pending = 0; candidate = 0; successors = l }
+
 -- a table: the length r of each successor list, the step count, and the members in the order of their records
 pub record Table : Type 0 where
   pub r : ℕ
   pub steps : ℕ
   pub members : List Member
 
--- the words of the header: r, member count, step count
+-- the table of lists of r entries with these members, step count 0
+abbrev pub tableWith : ℕ → List Member → Table
+tableWith r ms = record { r = r; steps = 0; members = ms }
+
+-- the size of its identifier space
+abbrev pub spaceOf : Table → ℕ
+spaceOf T = space
+
+-- the table with its step count 0: what is left of it where counts do not matter
+abbrev pub uncounted : Table → Table
+uncounted T = tableWith (T .r) (T .members)
+
+-- how many words the header has
 abbrev pub headerSize : ℕ
 headerSize = 3
 
@@ -63,9 +79,13 @@ tableOf ws = record { r = getD ws 0 0; steps = getD ws 2 0; members = membersOf 
 abbrev pub membersIn : List ℕ → List Member
 membersIn ws = tableOf ws .members
 
+-- the words of a table's header: r, member count, step count
+abbrev pub headerOf : Table → List ℕ
+headerOf T = T .r ∷ length (T .members) ∷ T .steps ∷ []
+
 -- the words of a table
 abbrev pub wordsOf : Table → List ℕ
-wordsOf T = T .r ∷ length (T .members) ∷ T .steps ∷ recordsOf (T .members)
+wordsOf T = headerOf T ++ recordsOf (T .members)
 
 -- the members' identifiers, in order
 abbrev pub ids : List Member → List ℕ
@@ -81,14 +101,14 @@ formedMember w r m =
     && every (λ x. ltb x w) (m .id ∷ m .predecessor ∷ m .candidate ∷ m .successors)
 
 -- a table is well-formed: r is 1 to 8, 0 to 256 members, a step count of one word, records by rising identifier, each of them right
-unfoldable pub formed : ℕ → Table → Bool
-formed w T =
+unfoldable pub formed : Table → Bool
+formed T =
     leb 1 (T .r) && leb (T .r) 8
     && leb (length (T .members)) 256
     && ltb (T .steps) wordLimit
     && rising (ids (T .members))
-    && every (formedMember w (T .r)) (T .members)
+    && every (formedMember (spaceOf T) (T .r)) (T .members)
 
 -- a slice holds a well-formed table: it is no shorter than its header and its table, and that table is well-formed
 unfoldable pub wellFormed : List ℕ → Bool
-wellFormed ws = leb headerSize (length ws) && leb (size (tableOf ws)) (length ws) && formed space (tableOf ws)
+wellFormed ws = leb headerSize (length ws) && leb (size (tableOf ws)) (length ws) && formed (tableOf ws)

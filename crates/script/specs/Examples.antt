@@ -3,8 +3,8 @@ use Prim.Native.Nat.{ℕ, _*_}
 use mathlib.Core.Path.{_≡_, refl}
 use mathlib.Core.List.{List, [], _∷_, _++_}
 use lib.ListN.{replicate}
-use Rattle.model.specs.Identifier.{between, after}
-use Rattle.model.specs.Table.{recordSize, wordsOf, formedMember, formed, wellFormed}
+use Rattle.model.specs.Identifier.{between, after, space}
+use Rattle.model.specs.Table.{tableWith, recordSize, wordsOf, formedMember, formed, wellFormed}
 use Rattle.model.specs.Ring.{candidateInside, sound, idealMember, ideal, verdict}
 use Rattle.model.specs.Steps.{stabilizeFromSuccessor, stabilizeFromPredecessor, stabilize, stabilizeReply, nextStep, renews}
 use Rattle.model.specs.Refusals.{full, cutsOff, tooFewPrincipals, noNewTable, joinRefusal, memberRefusal, leaveRefusal, auditRefusal, newRefusal}
@@ -16,7 +16,7 @@ use Rattle.script.specs.Session.{wordAnswer, wordWords, lineText, lineWo
 
 -- a table with no members and r = 1, and room for 256 with lists of 8
 abbrev pub noMembers : List ℕ
-noMembers = wordsOf (record { r = 1; steps = 0; members = [] }) ++ replicate (256 * recordSize 8) 0
+noMembers = wordsOf (tableWith 1 []) ++ replicate (256 * recordSize 8) 0
 
 abbrev pub input : List ℕ
 input =
@@ -49,5 +49,5 @@ output =
     49 ∷ 50 ∷ 32 ∷ 102 ∷ 105 ∷ 110 ∷ 100 ∷ 32 ∷ 111 ∷ 107 ∷ 32 ∷ 50 ∷ 48 ∷ 32 ∷ 52 ∷ 48 ∷ 32 ∷ 49 ∷ 32 ∷ 48 ∷ 10 ∷ []
 
 session : sessionText input noMembers ≡ output
-unfolding sessionText lineText lineWords wordAnswer wordWords answered unread answerText fieldsText digits meaning numbersOf wordOf isNumber between after formedMember formed wellFormed candidateInside sound idealMember ideal verdict stabilizeFromSuccessor stabilizeFromPredecessor stabilize stabilizeReply nextStep renews full cutsOff tooFewPrincipals noNewTable joinRefusal memberRefusal leaveRefusal auditRefusal newRefusal joinAnswer joinWords stabilizeAnswer stabilizeWords rectifyAnswer rectifyWords leaveAnswer leaveWords lookupAnswer auditAnswer newAnswer newWords callAnswer callWords
+unfolding sessionText lineText lineWords wordAnswer wordWords answered unread answerText fieldsText digits meaning numbersOf wordOf isNumber between after formedMember formed wellFormed candidateInside sound idealMember ideal verdict stabilizeFromSuccessor stabilizeFromPredecessor stabilize stabilizeReply nextStep renews full cutsOff tooFewPrincipals noNewTable joinRefusal memberRefusal leaveRefusal auditRefusal newRefusal joinAnswer joinWords stabilizeAnswer stabilizeWords rectifyAnswer rectifyWords leaveAnswer leaveWords lookupAnswer auditAnswer newAnswer newWords callAnswer callWords space
 session = refl

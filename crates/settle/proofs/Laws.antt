@@ -5,7 +5,6 @@ use mathlib.Core.Bool.{true, false}
 use mathlib.Core.List.{List, [], _∷_}
 use native.Mathlib.Omega.{arith}
 use borrow.Author.Tests.{ne-eqb}
-use Rattle.model.specs.Identifier.{space}
 use Rattle.model.specs.Table.{Table, tableOf, membersIn, wellFormed}
 use Rattle.model.specs.Ring.{sound, verdict, passedByAll}
 use Rattle.model.specs.Answer.{Answer, declined, answer, afterwards}
@@ -40,14 +39,14 @@ module _ (ws : List ℕ) where
 
 -- Rounds
 
-pub round-next : {ws us : List ℕ} → Good ws → us ≡ written (afterRound space (tableOf ws)) ws → Next ws (afterRound space (tableOf ws)) us
-round-next {ws} g e = lasting-next g (lasting-none g) (afterRound space (tableOf ws)) (round-lasts space (tableOf ws) (good-kept ws g)) e
+pub round-next : {ws us : List ℕ} → Good ws → us ≡ written (afterRound (tableOf ws)) ws → Next ws (afterRound (tableOf ws)) us
+round-next {ws} g e = lasting-next g (lasting-none g) (afterRound (tableOf ws)) (round-lasts (tableOf ws) (good-kept ws g)) e
 
-ends-ideal : (k : ℕ) (T : Table) → verdict T ≡ 2 → roundsRun space k T ≡ 0
+ends-ideal : (k : ℕ) (T : Table) → verdict T ≡ 2 → roundsRun k T ≡ 0
 ends-ideal zero T v = refl
 ends-ideal (suc k) T v = rw v
 
-goes-on : (k j : ℕ) (T : Table) → k ≡ suc j → (verdict T ≡ 2 → ⊥) → roundsRun space k T ≡ suc (roundsRun space j (afterRound space T))
+goes-on : (k j : ℕ) (T : Table) → k ≡ suc j → (verdict T ≡ 2 → ⊥) → roundsRun k T ≡ suc (roundsRun j (afterRound T))
 goes-on k j T e v = rw (e, ne-eqb (verdict T) 2 v)
 
 -- after so many rounds, with the verdict v: what is left to run from us is the whole of what is run from ws
@@ -55,42 +54,42 @@ pub record Settling (limit : ℕ) (ws : List ℕ) (rounds v : ℕ) (us : List �
   pub follows : Lasting ws us
   pub few : rounds ≤ limit
   pub looked : v ≡ verdict (tableOf us)
-  pub counts : rounds + roundsRun space (limit - rounds) (tableOf us) ≡ roundsRun space limit (tableOf ws)
-  pub rest : afterSettle space (limit - rounds) (tableOf us) ≡ afterSettle space limit (tableOf ws)
+  pub counts : rounds + roundsRun (limit - rounds) (tableOf us) ≡ roundsRun limit (tableOf ws)
+  pub rest : afterSettle (limit - rounds) (tableOf us) ≡ afterSettle limit (tableOf ws)
 
 module _ {ws : List ℕ} (g : Good ws) (limit : ℕ) where
   pub settling-starts : {v : ℕ} → v ≡ verdict (tableOf ws) → Settling limit ws 0 v ws
   settling-starts e =
       let q : limit - 0 ≡ limit = omega arith in
-      let c : roundsRun space (limit - 0) (tableOf ws) ≡ roundsRun space limit (tableOf ws) = ap (λ (k : ℕ). roundsRun space k (tableOf ws)) q in
-      record { follows = lasting-none g; few = omega arith; looked = e; counts = omega (arith, c); rest = ap (λ (k : ℕ). afterSettle space k (tableOf ws)) q }
+      let c : roundsRun (limit - 0) (tableOf ws) ≡ roundsRun limit (tableOf ws) = ap (λ (k : ℕ). roundsRun k (tableOf ws)) q in
+      record { follows = lasting-none g; few = omega arith; looked = e; counts = omega (arith, c); rest = ap (λ (k : ℕ). afterSettle k (tableOf ws)) q }
 
   module _ {us : List ℕ} {rounds v : ℕ} (u : Settling limit ws rounds v us) where
     -- the table is ideal, or so many rounds have run; the sum is of the table as it began
     module _ {passed : ℕ} (p : passed ≡ passedByAll (membersIn ws)) where
-      ends : roundsRun space (limit - rounds) (tableOf us) ≡ 0 → (rounds ∷ v ∷ passed ∷ [] ≡ settleReply space limit (tableOf ws)) × (us ≡ written (afterSettle space limit (tableOf ws)) ws)
+      ends : roundsRun (limit - rounds) (tableOf us) ≡ 0 → (rounds ∷ v ∷ passed ∷ [] ≡ settleReply limit (tableOf ws)) × (us ≡ written (afterSettle limit (tableOf ws)) ws)
       ends z =
-          let c : rounds ≡ roundsRun space limit (tableOf ws) = omega (arith, u .counts, z) in
-          let t : tableOf us ≡ afterSettle space limit (tableOf ws) = ap (λ (k : ℕ). afterRounds space k (tableOf us)) (sym z) ∙ u .rest in
+          let c : rounds ≡ roundsRun limit (tableOf ws) = omega (arith, u .counts, z) in
+          let t : tableOf us ≡ afterSettle limit (tableOf ws) = ap (λ (k : ℕ). afterRounds k (tableOf us)) (sym z) ∙ u .rest in
           (rw (c, u .looked, t, p), u .follows .in-place ∙ ap (λ (T : Table). written T ws) t)
 
-      pub settling-ideal : v ≡ 2 → (rounds ∷ v ∷ passed ∷ [] ≡ settleReply space limit (tableOf ws)) × (us ≡ written (afterSettle space limit (tableOf ws)) ws)
+      pub settling-ideal : v ≡ 2 → (rounds ∷ v ∷ passed ∷ [] ≡ settleReply limit (tableOf ws)) × (us ≡ written (afterSettle limit (tableOf ws)) ws)
       settling-ideal e = ends (ends-ideal (limit - rounds) (tableOf us) (sym (u .looked) ∙ e))
 
-      pub settling-all : limit ≤ rounds → (rounds ∷ v ∷ passed ∷ [] ≡ settleReply space limit (tableOf ws)) × (us ≡ written (afterSettle space limit (tableOf ws)) ws)
-      settling-all h = let z : limit - rounds ≡ 0 = omega arith in ends (ap (λ (k : ℕ). roundsRun space k (tableOf us)) z)
+      pub settling-all : limit ≤ rounds → (rounds ∷ v ∷ passed ∷ [] ≡ settleReply limit (tableOf ws)) × (us ≡ written (afterSettle limit (tableOf ws)) ws)
+      settling-all h = let z : limit - rounds ≡ 0 = omega arith in ends (ap (λ (k : ℕ). roundsRun k (tableOf us)) z)
 
     -- or one more runs
-    pub settling-on : {vs : List ℕ} {v' : ℕ} → rounds < limit → (v ≡ 2 → ⊥) → v' ≡ verdict (afterRound space (tableOf us)) → vs ≡ written (afterRound space (tableOf us)) us → Settling limit ws (rounds + 1) v' vs
+    pub settling-on : {vs : List ℕ} {v' : ℕ} → rounds < limit → (v ≡ 2 → ⊥) → v' ≡ verdict (afterRound (tableOf us)) → vs ≡ written (afterRound (tableOf us)) us → Settling limit ws (rounds + 1) v' vs
     settling-on {vs} h n e q =
-        let x = lasting-next g (u .follows) (afterRound space (tableOf us)) (round-lasts space (tableOf us) (u .follows .lasts .kept)) q in
+        let x = lasting-next g (u .follows) (afterRound (tableOf us)) (round-lasts (tableOf us) (u .follows .lasts .kept)) q in
         let j : limit - rounds ≡ suc (limit - (rounds + 1)) = omega arith in
         let c = goes-on (limit - rounds) (limit - (rounds + 1)) (tableOf us) j (λ z. n (u .looked ∙ z)) in
-        let same : roundsRun space (limit - (rounds + 1)) (tableOf vs) ≡ roundsRun space (limit - (rounds + 1)) (afterRound space (tableOf us)) = ap (roundsRun space (limit - (rounds + 1))) (x .has) in
+        let same : roundsRun (limit - (rounds + 1)) (tableOf vs) ≡ roundsRun (limit - (rounds + 1)) (afterRound (tableOf us)) = ap (roundsRun (limit - (rounds + 1))) (x .has) in
         record {
           follows = x .follows;
           few = omega arith;
           looked = e ∙ ap verdict (sym (x .has));
           counts = omega (arith, same, c, u .counts);
-          rest = ap (afterSettle space (limit - (rounds + 1))) (x .has) ∙ (ap (λ (k : ℕ). afterRounds space k (tableOf us)) (sym c) ∙ u .rest);
+          rest = ap (afterSettle (limit - (rounds + 1))) (x .has) ∙ (ap (λ (k : ℕ). afterRounds k (tableOf us)) (sym c) ∙ u .rest);
         }

@@ -1,6 +1,5 @@
 // Settle: one round, and rounds until the table is ideal. That the table is well-formed and sound is tested once, before the first round: a round keeps it so.
 ghost use mathlib.Core.Path.{_≡_};
-ghost use Rattle.model.specs.Identifier.{space};
 ghost use Rattle.model.specs.Table.{tableOf, membersIn};
 ghost use Rattle.model.specs.Ring.{verdict, passedByAll};
 ghost use Rattle.model.specs.Answer.{accepted};
@@ -51,7 +50,7 @@ fn verdict_now(t: &[u32]) -> u32
 // A round of a sound table, and the verdict after it.
 fn round_of(t: &mut [u32]) -> u32
     requires { ⌜ Good (now t) ⌝ }
-    ensures { λ v. ⌜ (v ≡ verdict (afterRound space (tableOf (now (t .entry))))) × (now (t .exit) ≡ written (afterRound space (tableOf (now (t .entry)))) (now (t .entry))) ⌝ }
+    ensures { λ v. ⌜ (v ≡ verdict (afterRound (tableOf (now (t .entry))))) × (now (t .exit) ≡ written (afterRound (tableOf (now (t .entry)))) (now (t .entry))) ⌝ }
 {
     turns::run_round(t);
     verdict_now(t)
@@ -61,7 +60,7 @@ fn round_of(t: &mut [u32]) -> u32
 fn rounds_of(t: &mut [u32], limit: u32, passed: u32) -> Settled
     requires { ⌜ Good (now t) ⌝ }
     requires { ⌜ passed ≡ passedByAll (membersIn (now t)) ⌝ }
-    ensures { λ a. ⌜ (settledOf a ≡ accepted (settleReply space limit (tableOf (now (t .entry))))) × (now (t .exit) ≡ written (afterSettle space limit (tableOf (now (t .entry)))) (now (t .entry))) ⌝ }
+    ensures { λ a. ⌜ (settledOf a ≡ accepted (settleReply limit (tableOf (now (t .entry))))) × (now (t .exit) ≡ written (afterSettle limit (tableOf (now (t .entry)))) (now (t .entry))) ⌝ }
 {
     let mut rounds: u32 = 0;
     let mut v = verdict_now(t);

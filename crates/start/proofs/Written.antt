@@ -8,7 +8,7 @@ use native.Mathlib.Omega.{arith}
 use lib.ListN.{length, getD, take, drop, set, length-map}
 use lib.Seq.{take-suc, take-at, drop-at, drop-drop, take-all, length-take-le}
 use Rattle.model.specs.Lists.{overlay}
-use Rattle.model.specs.Table.{Member, headerSize, recordSize, recordOf, recordsOf, size, wordsOf}
+use Rattle.model.specs.Table.{Member, headerSize, headerOf, recordSize, recordOf, recordsOf, size, wordsOf}
 use Rattle.laws.specs.Places.{next-ups-length}
 use Rattle.laws.specs.Lists.{in-nil, in-cons}
 use Rattle.laws.specs.Parts.{part-from, tail-back}
@@ -30,7 +30,7 @@ module _ (r : ℕ) (xs : List ℕ) where
 
 -- the header, and the records of the first i identifiers
 abbrev pub begun : ℕ → List ℕ → ℕ → List ℕ
-begun r xs i = r ∷ length xs ∷ 0 ∷ recordsOf (map (newMember r xs) (take i xs))
+begun r xs i = headerOf (newTable r xs) ++ recordsOf (map (newMember r xs) (take i xs))
 
 -- the records of a list with one more at its end
 records-snoc : (f : ℕ → Member) (l : List ℕ) (x : ℕ) → recordsOf (map f (l ++ (x ∷ []))) ≡ recordsOf (map f l) ++ recordOf (f x)
@@ -51,7 +51,7 @@ module _ (r : ℕ) (xs : List ℕ) where
   begun-length i h = rw (records-length r (map (newMember r xs) (take i xs)) (new-lengths (take i xs)), length-map, length-take-le i xs h) (omega arith)
 
   begun-all : (i : ℕ) → i ≡ length xs → begun r xs i ≡ wordsOf (newTable r xs)
-  begun-all i e = rw (take-all i xs (omega arith), length-map)
+  begun-all i e = rw (take-all i xs (omega arith))
 
 -- what lies after b words of the part from a on
 behind-part : (a b n : ℕ) (s t y : List ℕ) → drop a s ≡ y → drop b y ≡ drop b (drop a t) → a + b ≤ n → drop n s ≡ drop n t
@@ -66,8 +66,11 @@ abbrev pub headed : ℕ → List ℕ → List ℕ → List ℕ
 headed r xs t = set (set (set t 0 r) 1 (length xs)) 2 0
 
 module _ (r : ℕ) (xs : List ℕ) where
+  header-stored : (t : List ℕ) → headerSize ≤ length t → headed r xs t ≡ overlay (begun r xs 0) t
+  header-stored t h = ap (λ (n : ℕ). set (set (set t 0 r) 1 n) 2 0) (sym (length-map xs (newMember r xs))) ∙ stored (headerOf (newTable r xs)) t h
+
   pub begins : (t : List ℕ) → headerSize ≤ length t → headed r xs t ≡ overlay (begun r xs 0) (headed r xs t)
-  begins t h = over-itself (begun r xs 0) _ (headed r xs t) (stored (begun r xs 0) t h)
+  begins t h = over-itself (begun r xs 0) _ (headed r xs t) (header-stored t h)
 
   -- a turn: the words y come back for the part from at on
   module _ (t y : List ℕ) (i at : ℕ) (h : i < length xs) (o : at ≡ headerSize + i * recordSize r) where
@@ -99,5 +102,5 @@ module _ (r : ℕ) (xs : List ℕ) where
   pub begun-whole : (t₁ t : List ℕ) (i : ℕ) → i ≡ length xs → headerSize ≤ length t → drop (size (newTable r xs)) t₁ ≡ drop (size (newTable r xs)) (headed r xs t) → overlay (begun r xs i) t₁ ≡ overlay (wordsOf (newTable r xs)) t
   begun-whole t₁ t i e h f =
       let n = words-length (newTable r xs) (new-lengths r xs xs) in
-      let s = f ∙ ap (drop (size (newTable r xs))) (stored (begun r xs 0) t h) ∙ behind (begun r xs 0) t (size (newTable r xs)) (omega arith) in
+      let s = f ∙ ap (drop (size (newTable r xs))) (header-stored t h) ∙ behind (begun r xs 0) t (size (newTable r xs)) (omega arith) in
       ap (λ (l : List ℕ). overlay l t₁) (begun-all r xs i e) ∙ ap (λ (l : List ℕ). wordsOf (newTable r xs) ++ l) (ap (λ (m : ℕ). drop m t₁) n ∙ s ∙ ap (λ (m : ℕ). drop m t) (sym n))

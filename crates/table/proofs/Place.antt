@@ -2,7 +2,7 @@
 use Prim.Native.Nat.{ℕ, zero, suc, _≤_, _<_}
 use mathlib.Core.Path.{_≡_, refl, sym, ap, _∙_}
 use mathlib.Core.List.{List, [], _∷_, _++_}
-use mathlib.Core.Bool.{Bool, true, false, _&&_, _||_, or-false, false≢true}
+use mathlib.Core.Bool.{Bool, true, false, _&&_, _||_, or-false, false≢true, true≢false}
 use mathlib.Core.Logic.{_⊎_, inl, inr}
 use native.Mathlib.Nat.{le-of-suc-le-suc}
 use native.Mathlib.Omega.{arith}
@@ -12,7 +12,7 @@ use lib.ListN.{length, getD, take, drop}
 use Rattle.model.specs.Lists.{if_then_else_, contains, rising, risingFrom}
 use Rattle.model.specs.Table.{Member, headerSize, tableOf, membersIn, ids}
 use Rattle.model.specs.Ring.{live, named, nobody}
-use Rattle.model.specs.Steps.{inserted, replaced, removed}
+use Rattle.model.specs.Steps.{inserted, replaced, isNamed, staying}
 use Rattle.model.specs.Calls.{written}
 use Rattle.table.specs.Formed.{Formed}
 use Rattle.table.specs.Rank.{rank}
@@ -20,7 +20,8 @@ use Rattle.table.specs.Search.{Stands, searched}
 use Rattle.table.specs.declared.Search.{Search}
 use Rattle.table.specs.declared.Search.the-variants.{Here, Missing}
 use Rattle.laws.specs.Words.{members-length, written-same}
-use Rattle.laws.specs.Lists.{and-true as both}
+use Rattle.laws.specs.Lists.{and-true as both, in-live}
+use Rattle.laws.specs.Removed.{without-none}
 use Rattle.laws.specs.Order.{less?}
 use Rattle.table.proofs.Members.{ids-count, id-of, size-words}
 
@@ -191,9 +192,9 @@ pub replaced-same : {x k : ℕ} {ms : List Member} → At x ms k → replaced (g
 replaced-same (at-first {m = m} e) = rw (eq-eqb (m .id) (m .id) refl)
 replaced-same (at-later {m = m} {ms = ms} {k = k} h a) = rw (below-eqb (m .id) (getD ms k nobody .id) (omega (arith, h, at-id a, id-of ms k))) (ap (λ (l : List Member). m ∷ l) (replaced-same a))
 
-pub removed-at : {x k : ℕ} {ms : List Member} → At x ms k → removed x ms ≡ take k ms ++ drop (suc k) ms
-removed-at (at-first e) = rw (eq-eqb _ _ e)
-removed-at (at-later {m = m} h a) = rw (below-eqb _ _ h) (ap (λ (l : List Member). m ∷ l) (removed-at a))
+pub without-at : {x k : ℕ} {ms : List Member} → rising (ids ms) ≡ true → At x ms k → staying (isNamed x) ms ≡ take k ms ++ drop (suc k) ms
+without-at r (at-first {m = m} {ms = ms} e) = rw (eq-eqb _ _ e) (without-none _ ms (λ i. true≢false (sym (in-live ms i) ∙ none-below _ (m .id) (ids ms) r (omega (arith, e)))))
+without-at r (at-later {m = m} {ms = ms} h a) = rw (below-eqb _ _ h) (ap (λ (l : List Member). m ∷ l) (without-at (rising-tail (m .id) (ids ms) r) a))
 
 pub inserted-at : {k : ℕ} {ms : List Member} (v : Member) → Gap (v .id) ms k → inserted v ms ≡ take k ms ++ (v ∷ drop k ms)
 inserted-at v gap-last = refl

@@ -7,19 +7,18 @@ use mathlib.Core.List.{List, [], _∷_, _++_}
 use Prim.Native.Nat.{ℕ, zero, suc, _-_, _≤_, _<_}
 use native.Mathlib.Omega.{arith}
 use lib.ListN.{length, getD, replicate, drop, length-append, List·getD-append}
-use Rattle.model.specs.Lists.{if_then_else_, any, contains}
-use Rattle.model.specs.Identifier.{space}
-use Rattle.model.specs.Table.{Member, Table, ids, tableOf, membersIn, wellFormed}
+use Rattle.model.specs.Lists.{any, contains}
+use Rattle.model.specs.Table.{Member, Table, spaceOf, ids, tableOf, membersIn, wellFormed}
 use Rattle.model.specs.Ring.{live, named, successor, isPending, sound}
 use Rattle.model.specs.Answer.{accepted}
-use Rattle.model.specs.Steps.{adopt, clearPending, isBetter, stabilizeFromPredecessor, stabilize, stabilizeReply, replaced}
+use Rattle.model.specs.Steps.{isBetter, stabilizeFromPredecessor, stabilize, stabilizeReply, replaced}
 use Rattle.model.specs.Refusals.{memberRefusal}
 use Rattle.model.specs.Calls.{stabilizeAnswer, stabilizeWords}
 use Rattle.model.specs.Run.{Stabilize, callWords, run}
 use Rattle.laws.specs.Lists.{In, found, live-in, or-true}
 use Rattle.laws.specs.Accepted.{member-accepts}
 use Rattle.laws.specs.Tables.{wellFormed-facts, sound-facts}
-use Rattle.laws.specs.Stabilize.{done-pending, again, reply-look, reply-done, offered-better, step-pending, step-live, step-dead, same-id}
+use Rattle.laws.specs.Stabilize.{candidate-taken, candidate-cleared, done-pending, again, reply-look, reply-done, offered-better, step-pending, step-live, step-dead, same-id}
 use Rattle.theory.specs.Keep.{replaced-ids, replaced-named}
 use Rattle.theory.specs.Left.{stabilize-table}
 use Rattle.theory.specs.Runs.{Good, stabilize-good}
@@ -78,17 +77,17 @@ module _ (n : ℕ) where
 
     -- the members after a step of n
 
-    members : membersIn (stabilizeWords ws n) ≡ replaced (stabilize space (membersIn ws) (named (membersIn ws) n)) (membersIn ws)
+    members : membersIn (stabilizeWords ws n) ≡ replaced (stabilize (spaceOf (tableOf ws)) (membersIn ws) (named (membersIn ws) n)) (membersIn ws)
     members = ap (λ (T : Table). T .members) (stabilize-table ws n accepts)
 
     same-ids : ids (membersIn (stabilizeWords ws n)) ≡ ids (membersIn ws)
-    same-ids = ap ids members ∙ replaced-ids (stabilize space (membersIn ws) (named (membersIn ws) n)) (membersIn ws)
+    same-ids = ap ids members ∙ replaced-ids (stabilize (spaceOf (tableOf ws)) (membersIn ws) (named (membersIn ws) n)) (membersIn ws)
 
-    stepped : named (membersIn (stabilizeWords ws n)) n ≡ stabilize space (membersIn ws) (named (membersIn ws) n)
+    stepped : named (membersIn (stabilizeWords ws n)) n ≡ stabilize (spaceOf (tableOf ws)) (membersIn ws) (named (membersIn ws) n)
     stepped =
-        let v = stabilize space (membersIn ws) (named (membersIn ws) n) in
+        let v = stabilize (spaceOf (tableOf ws)) (membersIn ws) (named (membersIn ws) n) in
         let i = live-in (membersIn ws) n (g .member) in
-        let e : v .id ≡ n = same-id (membersIn ws) (named (membersIn ws) n) space ∙ found (membersIn ws) i .1 in
+        let e : v .id ≡ n = same-id (membersIn ws) (named (membersIn ws) n) (spaceOf (tableOf ws)) ∙ found (membersIn ws) i .1 in
         ap (λ (ms : List Member). named ms n) members ∙ subst (λ (x : ℕ). named (replaced v (membersIn ws)) x ≡ v) e (replaced-named v (membersIn ws) (subst (λ (x : ℕ). In x (ids (membersIn ws))) (sym e) i))
 
     next : With (stabilizeWords ws n)
@@ -103,7 +102,7 @@ module _ (n : ℕ) where
     awaits p d b =
         let ms = membersIn ws in
         let m = named ms n in
-        ap isPending (stepped ∙ sym (step-live ms m space p d) ∙ sym (offered-better ms m b))
+        ap isPending (stepped ∙ sym (step-live ms m (spaceOf (tableOf ws)) p d) ∙ sym (offered-better ms m b))
 
   settles : (ws : List ℕ) (g : With ws) → isPending (named (membersIn ws) n) ≡ false → live (membersIn ws) (successor (named (membersIn ws) n)) ≡ true → Settles n ws
   settles ws g p d = go (isBetter (membersIn ws) (named (membersIn ws) n)) refl
@@ -140,7 +139,7 @@ module _ (n : ℕ) where
       LiveAt (ids (membersIn ws)) (named (membersIn ws) n .successors) (suc i) → LiveAt (ids (membersIn (stabilizeWords ws n))) (named (membersIn (stabilizeWords ws n)) n .successors) i
   nearer ws g i p q a =
       subst (λ (xs : List ℕ). LiveAt xs (named (membersIn (stabilizeWords ws n)) n .successors) i) (sym (same-ids ws g))
-      (subst (λ (v : Member). LiveAt (ids (membersIn ws)) (v .successors) i) (step-dead (membersIn ws) (named (membersIn ws) n) space p q ∙ sym (stepped ws g))
+      (subst (λ (v : Member). LiveAt (ids (membersIn ws)) (v .successors) i) (step-dead (membersIn ws) (named (membersIn ws) n) (spaceOf (tableOf ws)) p q ∙ sym (stepped ws g))
       (in-front (ids (membersIn ws)) (named (membersIn ws) n .successors) _ i a))
 
   -- where a live entry stands at place i of the list
@@ -161,7 +160,7 @@ module _ (n : ℕ) where
   -- nothing pending, and a live entry at place i: i steps
   clears : (i : ℕ) (ws : List ℕ) → With ws → isPending (named (membersIn ws) n) ≡ false → LiveAt (ids (membersIn ws)) (named (membersIn ws) n .successors) i → Clears n i ws
   clears zero ws g p a = clear-here ws 0 (a .lives)
-  clears (suc i) ws g p a = go (live (membersIn ws) (successor (named (membersIn ws) n))) refl (λ q. clears i (stabilizeWords ws n) (next ws g) (ap isPending (stepped ws g ∙ sym (step-dead (membersIn ws) (named (membersIn ws) n) space p q)) ∙ p) (nearer ws g i p q a))
+  clears (suc i) ws g p a = go (live (membersIn ws) (successor (named (membersIn ws) n))) refl (λ q. clears i (stabilizeWords ws n) (next ws g) (ap isPending (stepped ws g ∙ sym (step-dead (membersIn ws) (named (membersIn ws) n) (spaceOf (tableOf ws)) p q)) ∙ p) (nearer ws g i p q a))
     where
       go : (d : Bool) → live (membersIn ws) (successor (named (membersIn ws) n)) ≡ d → (live (membersIn ws) (successor (named (membersIn ws) n)) ≡ false → Clears n i (stabilizeWords ws n)) → Clears n (suc i) ws
       go true q ih = clear-here ws (suc i) q
@@ -169,8 +168,7 @@ module _ (n : ℕ) where
 
   -- a pending step leaves nothing pending, and a live entry no further behind
   finished : (i : ℕ) (ws : List ℕ) (g : With ws) → isPending (named (membersIn ws) n) ≡ true → LiveAt (ids (membersIn ws)) (named (membersIn ws) n .successors) i → Clears n i (stabilizeWords ws n)
-  unfolding stabilizeFromPredecessor
-  finished i ws g p a = go (live ms (m .candidate)) refl (stepped ws g ∙ sym (step-pending ms m space p))
+  finished i ws g p a = go (live ms (m .candidate)) refl
     where
       ms : List Member
       ms = membersIn ws
@@ -178,9 +176,14 @@ module _ (n : ℕ) where
       m : Member
       m = named ms n
 
-      go : (b : Bool) → live ms (m .candidate) ≡ b → named (membersIn (stabilizeWords ws n)) n ≡ clearPending (if b then adopt (m .candidate) (named ms (m .candidate) .successors) m else m) → Clears n i (stabilizeWords ws n)
-      go true e q = clear-here (stabilizeWords ws n) i (rw q (subst (λ (xs : List ℕ). contains xs (m .candidate) ≡ true) (sym (same-ids ws g)) e))
-      go false e q = clears i (stabilizeWords ws n) (next ws g) (ap isPending q) (subst (λ (xs : List ℕ). LiveAt xs (named (membersIn (stabilizeWords ws n)) n .successors) i) (sym (same-ids ws g)) (subst (λ (v : Member). LiveAt (ids ms) (v .successors) i) (sym q) a))
+      now : named (membersIn (stabilizeWords ws n)) n ≡ stabilizeFromPredecessor ms m
+      now = stepped ws g ∙ sym (step-pending ms m (spaceOf (tableOf ws)) p)
+
+      go : (b : Bool) → live ms (m .candidate) ≡ b → Clears n i (stabilizeWords ws n)
+      go true e = clear-here (stabilizeWords ws n) i (rw (now ∙ sym (candidate-taken ms m e)) (subst (λ (xs : List ℕ). contains xs (m .candidate) ≡ true) (sym (same-ids ws g)) e))
+      go false e =
+          let q = now ∙ sym (candidate-cleared ms m e) in
+          clears i (stabilizeWords ws n) (next ws g) (ap isPending q) (subst (λ (xs : List ℕ). LiveAt xs (named (membersIn (stabilizeWords ws n)) n .successors) i) (sym (same-ids ws g)) (subst (λ (v : Member). LiveAt (ids ms) (v .successors) i) (sym q) a))
 
   clears-by : (i : ℕ) (ws : List ℕ) → With ws → LiveAt (ids (membersIn ws)) (named (membersIn ws) n .successors) i → Clears n (suc i) ws
   clears-by i ws g a = go (isPending (named (membersIn ws) n)) refl

@@ -10,13 +10,13 @@ use lib.Dec.{eqb}
 use lib.ListN.{getD}
 use Rattle.model.specs.Lists.{if_then_else_}
 use Rattle.model.specs.Identifier.{between}
-use Rattle.model.specs.Table.{Member, Table, ids}
+use Rattle.model.specs.Table.{Member, Table, spaceOf, ids}
 use Rattle.model.specs.Ring.{live, named, successor, isPending}
-use Rattle.model.specs.Steps.{withPredecessor, adopt, awaitCandidate, clearPending, dropHead, offered, isBetter, stabilizeFromPredecessor, stabilized, renews, rectified}
+use Rattle.model.specs.Steps.{withPredecessor, adopt, awaitCandidate, dropHead, offered, isBetter, stabilized, renews, rectified}
 use Rattle.model.specs.Settle.{delivered, nextReply, isDone, lastStep, finished, untilDone, afterTurn}
 use Rattle.laws.specs.Order.{equal?, Inside, Outside, below, beyond, rest, mid, high, low, inside?, inside-outside, false-outside, inner-from}
 use Rattle.laws.specs.Lists.{In, found, live-in, in-live}
-use Rattle.laws.specs.Stabilize.{done-pending, again, reply-look, reply-done, offered-better, offered-no-better, step-pending, step-live, step-dead}
+use Rattle.laws.specs.Stabilize.{done-pending, reply-look, reply-done, offered-better, offered-no-better, step-live, Way, takes, clears, drops, looks, settles, way-of}
 use Rattle.theory.specs.Bound.{UntilDone, last, more}
 use Rattle.theory.specs.Static.{lists-in-order}
 use Rattle.theory.specs.Keep.{Kept}
@@ -59,31 +59,20 @@ inside-further {n} {p} {m} {h} i j = go (inside? n m h)
     go (inr o) = absurd (inside-outside j (inner-from i o))
 
 -- no member is its own successor
-pub not-own : (w : ℕ) (T : Table) → Kept w T → (n : ℕ) → In n (ids (T .members)) → n ≡ succOf T n → ⊥
-not-own w T k n i e =
-    let o = lists-in-order w T (k .formed) (k .is-sound) n i in
+pub not-own : (T : Table) → Kept T → (n : ℕ) → In n (ids (T .members)) → n ≡ succOf T n → ⊥
+not-own T k n i e =
+    let o = lists-in-order T (k .formed) (k .is-sound) n i in
     o .different 0 1 (omega arith) (omega (arith, o .many, k .formed .r-low)) e
 
--- The cases of a step
+-- The next step of n, by the ways of a step: what it replies, and what it leaves of n's record
 
 module _ (n : ℕ) (T : Table) where
   abbrev m : Member
   m = named (T .members) n
 
-  pub data Case : Type 0 where
-    pending : isPending m ≡ true → Case
-    gone : isPending m ≡ false → live (T .members) (succOf T n) ≡ false → Case
-    looks : isPending m ≡ false → live (T .members) (succOf T n) ≡ true → isBetter (T .members) m ≡ true → Case
-    settles : isPending m ≡ false → live (T .members) (succOf T n) ≡ true → isBetter (T .members) m ≡ false → Case
-
-  pub case-of : Case
-  case-of = go (isPending m) refl (live (T .members) (succOf T n)) refl (isBetter (T .members) m) refl
-    where
-      go : (a : Bool) → isPending m ≡ a → (b : Bool) → live (T .members) (succOf T n) ≡ b → (c : Bool) → isBetter (T .members) m ≡ c → Case
-      go true ea b eb c ec = pending ea
-      go false ea false eb c ec = gone ea eb
-      go false ea true eb true ec = looks ea eb ec
-      go false ea true eb false ec = settles ea eb ec
+  -- the way that leaves l for the reply and u for the record
+  abbrev NextWay : List ℕ → Member → Type 0
+  NextWay l u = Way (spaceOf T) (T .members) m l u
 
   by-reply : (l : List ℕ) → l ≡ nextReply n T → isDone n T ≡ eqb (getD l 0 0) 2
   by-reply l e = ap (λ (k : List ℕ). eqb (getD k 0 0) 2) (sym e)
@@ -91,77 +80,63 @@ module _ (n : ℕ) (T : Table) where
   pub pending-done : isPending m ≡ true → isDone n T ≡ true
   pending-done p = by-reply _ (done-pending (T .members) m p)
 
-  gone-again : isPending m ≡ false → live (T .members) (succOf T n) ≡ false → isDone n T ≡ false
-  gone-again p d = by-reply _ (again (T .members) m p d)
-
   pub looks-on : isPending m ≡ false → live (T .members) (succOf T n) ≡ true → isBetter (T .members) m ≡ true → isDone n T ≡ false
   looks-on p l b = by-reply _ (reply-look (T .members) m p l b)
 
   pub settles-done : isPending m ≡ false → live (T .members) (succOf T n) ≡ true → isBetter (T .members) m ≡ false → isDone n T ≡ true
   settles-done p l b = by-reply _ (reply-done (T .members) m p l b)
 
--- What a step leaves of n's record, by its cases
+  module _ (k : Kept T) (i : In n (ids (T .members))) where
+    next-way : NextWay (nextReply n T) (named (stabilized n T .members) n)
+    next-way = subst (NextWay (nextReply n T)) (sym (stepped-named T k n i)) (way-of (spaceOf T) (T .members) m)
 
-module _ (w n : ℕ) (T : Table) (k : Kept w T) (i : In n (ids (T .members))) where
-  abbrev U : Table
-  U = stabilized w n T
+    pub left-looks : isPending m ≡ false → live (T .members) (succOf T n) ≡ true → isBetter (T .members) m ≡ true → named (stabilized n T .members) n ≡ awaitCandidate (offered (T .members) m) (adopt (succOf T n) (named (T .members) (succOf T n) .successors) m)
+    left-looks p l b = stepped-named T k n i ∙ sym (step-live (T .members) m (spaceOf T) p l) ∙ sym (offered-better (T .members) m b)
 
-  abbrev v : Member
-  v = named (T .members) n
-
-  left-pending : isPending v ≡ true → named (U .members) n ≡ stabilizeFromPredecessor (T .members) v
-  left-pending p = stepped-named w T k n i ∙ sym (step-pending (T .members) v w p)
-
-  left-gone : isPending v ≡ false → live (T .members) (succOf T n) ≡ false → named (U .members) n ≡ dropHead w v
-  left-gone p d = stepped-named w T k n i ∙ sym (step-dead (T .members) v w p d)
-
-  pub left-looks : isPending v ≡ false → live (T .members) (succOf T n) ≡ true → isBetter (T .members) v ≡ true → named (U .members) n ≡ awaitCandidate (offered (T .members) v) (adopt (succOf T n) (named (T .members) (succOf T n) .successors) v)
-  left-looks p l b = stepped-named w T k n i ∙ sym (step-live (T .members) v w p l) ∙ sym (offered-better (T .members) v b)
-
-  pub left-settles : isPending v ≡ false → live (T .members) (succOf T n) ≡ true → isBetter (T .members) v ≡ false → named (U .members) n ≡ adopt (succOf T n) (named (T .members) (succOf T n) .successors) v
-  left-settles p l b = stepped-named w T k n i ∙ sym (step-live (T .members) v w p l) ∙ sym (offered-no-better (T .members) v b)
+    pub left-settles : isPending m ≡ false → live (T .members) (succOf T n) ≡ true → isBetter (T .members) m ≡ false → named (stabilized n T .members) n ≡ adopt (succOf T n) (named (T .members) (succOf T n) .successors) m
+    left-settles p l b = stepped-named T k n i ∙ sym (step-live (T .members) m (spaceOf T) p l) ∙ sym (offered-no-better (T .members) m b)
 
 -- The steps of a turn end with "done": a live entry stands at place j of the list, "again" drops one before it, and two steps more are enough
 
-module _ (w n : ℕ) where
-  until-now : (f : ℕ) (T : Table) → 1 ≤ f → isDone n T ≡ true → UntilDone w n T (untilDone w f n T)
+module _ (n : ℕ) where
+  until-now : (f : ℕ) (T : Table) → 1 ≤ f → isDone n T ≡ true → UntilDone n T (untilDone f n T)
   until-now zero T h e = absurd (omega arith)
   until-now (suc f) T h e = rw e (last e)
 
-  until : (j f : ℕ) (T : Table) → Kept w T → In n (ids (T .members)) → LiveAt (ids (T .members)) (named (T .members) n .successors) j → suc (suc j) ≤ f → UntilDone w n T (untilDone w f n T)
+  -- a bound f ends the steps that are left with "done", if u is n's record then and has a live entry at place j
+  abbrev Later : ℕ → Table → Member → ℕ → Type 0
+  Later f T u j = LiveAt (ids (T .members)) (u .successors) j → suc (suc j) ≤ f → UntilDone n (stabilized n T) (untilDone f n (stabilized n T))
+
+  until : (j f : ℕ) (T : Table) → Kept T → In n (ids (T .members)) → LiveAt (ids (T .members)) (named (T .members) n .successors) j → suc (suc j) ≤ f → UntilDone n T (untilDone f n T)
   until j zero T k i a h = absurd (omega arith)
-  until j (suc f) T k i a h = go (isDone n T) refl (λ j b. until j f (stabilized w n T) (acted-step w T k n i .lasts .kept) (stays-in w n (acted-step w T k n i) i) b)
+  until j (suc f) T k i a h = go (isDone n T) refl (λ j b. until j f (stabilized n T) (acted-step T k n i .lasts .kept) (stays-in n (acted-step T k n i) i) b)
     where
-      ahead : (j : ℕ) → isPending (named (T .members) n) ≡ false → live (T .members) (succOf T n) ≡ false → LiveAt (ids (T .members)) (named (T .members) n .successors) (suc j) → LiveAt (ids (stabilized w n T .members)) (named (stabilized w n T .members) n .successors) j
-      ahead j p d b =
-          subst (λ (xs : List ℕ). LiveAt xs (named (stabilized w n T .members) n .successors) j) (sym (acted-step w T k n i .lasts .same-ids))
-          (subst (λ (u : Member). LiveAt (ids (T .members)) (u .successors) j) (sym (left-gone w n T k i p d)) (in-front (ids (T .members)) (named (T .members) n .successors) _ j b))
+      dropped : (j : ℕ) → LiveAt (ids (T .members)) (named (T .members) n .successors) j → suc (suc j) ≤ suc f → live (T .members) (succOf T n) ≡ false → ((j : ℕ) → Later f T (dropHead (spaceOf T) (named (T .members) n)) j) → UntilDone n (stabilized n T) (untilDone f n (stabilized n T))
+      dropped zero a h d ih = absurd (true≢false (sym (a .lives) ∙ d))
+      dropped (suc j) a h d ih = ih j (in-front (ids (T .members)) (named (T .members) n .successors) _ j a) (omega arith)
 
-      dropped : (j : ℕ) → LiveAt (ids (T .members)) (named (T .members) n .successors) j → suc (suc j) ≤ suc f → isPending (named (T .members) n) ≡ false → live (T .members) (succOf T n) ≡ false → ((j : ℕ) → LiveAt (ids (stabilized w n T .members)) (named (stabilized w n T .members) n .successors) j → suc (suc j) ≤ f → UntilDone w n (stabilized w n T) (untilDone w f n (stabilized w n T))) → UntilDone w n (stabilized w n T) (untilDone w f n (stabilized w n T))
-      dropped zero a h p d ih = absurd (true≢false (sym (a .lives) ∙ d))
-      dropped (suc j) a h p d ih = ih j (ahead j p d a) (omega arith)
+      on : {l : List ℕ} {u : Member} → eqb (getD l 0 0) 2 ≡ false → NextWay n T l u → named (stabilized n T .members) n ≡ u → ((j : ℕ) → Later f T u j) → UntilDone n (stabilized n T) (untilDone f n (stabilized n T))
+      on e (takes p l) q ih = absurd (true≢false e)
+      on e (clears p l) q ih = absurd (true≢false e)
+      on e (drops p d) q ih = dropped j a h d ih
+      on e (looks p l b) q ih = until-now f (stabilized n T) (omega arith) (pending-done n (stabilized n T) (ap isPending q))
+      on e (settles p l b) q ih = absurd (true≢false e)
 
-      on : isDone n T ≡ false → ((j : ℕ) → LiveAt (ids (stabilized w n T .members)) (named (stabilized w n T .members) n .successors) j → suc (suc j) ≤ f → UntilDone w n (stabilized w n T) (untilDone w f n (stabilized w n T))) → Case n T → UntilDone w n (stabilized w n T) (untilDone w f n (stabilized w n T))
-      on e ih (pending p) = absurd (true≢false (sym (pending-done n T p) ∙ e))
-      on e ih (gone p d) = dropped j a h p d ih
-      on e ih (looks p l b) = until-now f (stabilized w n T) (omega arith) (pending-done n (stabilized w n T) (ap isPending (left-looks w n T k i p l b)))
-      on e ih (settles p l b) = absurd (true≢false (sym (settles-done n T p l b) ∙ e))
-
-      go : (b : Bool) → isDone n T ≡ b → ((j : ℕ) → LiveAt (ids (stabilized w n T .members)) (named (stabilized w n T .members) n .successors) j → suc (suc j) ≤ f → UntilDone w n (stabilized w n T) (untilDone w f n (stabilized w n T))) → UntilDone w n T (if b then lastStep w n T else untilDone w f n (stabilized w n T))
+      go : (b : Bool) → isDone n T ≡ b → ((j : ℕ) → LiveAt (ids (stabilized n T .members)) (named (stabilized n T .members) n .successors) j → suc (suc j) ≤ f → UntilDone n (stabilized n T) (untilDone f n (stabilized n T))) → UntilDone n T (if b then lastStep n T else untilDone f n (stabilized n T))
       go true e ih = last e
-      go false e ih = more e (on e ih (case-of n T))
+      go false e ih = more e (on e (next-way n T k i) refl (λ j b g. ih j (subst (λ (xs : List ℕ). LiveAt xs (named (stabilized n T .members) n .successors) j) (sym (acted-step T k n i .lasts .same-ids)) b) g))
 
   -- on a sound table with n a bound of r + 1 steps or more is never what ends them
-  until-done : (f : ℕ) (T : Table) → Kept w T → In n (ids (T .members)) → suc (T .r) ≤ f → UntilDone w n T (untilDone w f n T)
+  until-done : (f : ℕ) (T : Table) → Kept T → In n (ids (T .members)) → suc (T .r) ≤ f → UntilDone n T (untilDone f n T)
   until-done f T k i h =
       let m = found (T .members) i in
       let a = live-at (ids (T .members)) (named (T .members) n .successors) (k .is-sound .live-entry (named (T .members) n) (m .0)) in
       until (a .0) f T k i (a .1) (omega (arith, a .1 .inside, k .formed .each (named (T .members) n) (m .0) .list-length))
 
   -- nor in a turn
-  pub turn-until : (T : Table) → Kept w T → In n (ids (T .members)) → UntilDone w n (finished w n T) (afterTurn w n T)
+  pub turn-until : (T : Table) → Kept T → In n (ids (T .members)) → UntilDone n (finished n T) (afterTurn n T)
   unfolding afterTurn
-  turn-until T k i = let a = acted-finished w n T k i in until-done (suc (T .r)) (finished w n T) (a .lasts .kept) (stays-in w n a i) (omega (arith, a .lasts .same-r))
+  turn-until T k i = let a = acted-finished n T k i in until-done (suc (T .r)) (finished n T) (a .lasts .kept) (stays-in n a i) (omega (arith, a .lasts .same-r))
 
   -- What a turn leaves of n
 
@@ -175,49 +150,38 @@ module _ (w n : ℕ) where
   Ready : Table → Type 0
   Ready T = isPending (named (T .members) n) ≡ true → live (T .members) (succOf T n) ≡ true
 
-  module _ (T : Table) (k : Kept w T) (i : In n (ids (T .members))) where
+  module _ (T : Table) (k : Kept T) (i : In n (ids (T .members))) where
+    in-next : {x : ℕ} → live (T .members) x ≡ true → In x (ids (stabilized n T .members))
+    in-next {x} l = rw (acted-step T k n i .lasts .same-ids) (live-in (T .members) x l)
+
     -- by the step that replies "done"
-    done-head : isDone n T ≡ true → Ready T → Heads (stabilized w n T) (getD (nextReply n T) 1 0)
-    unfolding Ready stabilizeFromPredecessor
-    done-head e ready = go (case-of n T)
+    done-head : isDone n T ≡ true → Ready T → Heads (stabilized n T) (getD (nextReply n T) 1 0)
+    unfolding Ready
+    done-head e ready = let h = go e (next-way n T k i) in record { quiet = h .0; is = h .1; lives = in-next (h .2) }
       where
-        ms : List Member
-        ms = T .members
-
-        in-next : (x : ℕ) → live (T .members) x ≡ true → In x (ids (stabilized w n T .members))
-        in-next x l = rw (acted-step w T k n i .lasts .same-ids) (live-in (T .members) x l)
-
-        chosen : (b : Bool) → live (T .members) (named (T .members) n .candidate) ≡ b → live (T .members) (succOf T n) ≡ true → live (T .members) (successor (clearPending (if b then adopt (named (T .members) n .candidate) (named (T .members) (named (T .members) n .candidate) .successors) (named (T .members) n) else named (T .members) n))) ≡ true
-        chosen true eb l = eb
-        chosen false eb l = l
-
-        go : Case n T → Heads (stabilized w n T) (getD (nextReply n T) 1 0)
-        go (pending p) =
-            let q = left-pending w n T k i p in
-            let r = ap (λ (l : List ℕ). getD l 1 0) (sym (done-pending (T .members) (named (T .members) n) p)) in
-            record { quiet = ap isPending q; is = ap successor q ∙ sym r; lives = rw r (in-next _ (chosen (live (T .members) (named (T .members) n .candidate)) refl (ready p))) }
-        go (gone p d) = absurd (true≢false (sym e ∙ gone-again n T p d))
-        go (looks p l b) = absurd (true≢false (sym e ∙ looks-on n T p l b))
-        go (settles p l b) =
-            let q = left-settles w n T k i p l b in
-            let r = ap (λ (l : List ℕ). getD l 1 0) (sym (reply-done (T .members) (named (T .members) n) p l b)) in
-            record { quiet = ap isPending q ∙ p; is = ap successor q ∙ sym r; lives = rw r (in-next _ l) }
+        go : {l : List ℕ} {u : Member} → eqb (getD l 0 0) 2 ≡ true → NextWay n T l u → (isPending u ≡ false) × (successor u ≡ getD l 1 0) × (live (T .members) (getD l 1 0) ≡ true)
+        go e (takes p l) = (refl, refl, l)
+        go e (clears p l) = (refl, refl, ready p)
+        go e (drops p d) = absurd (true≢false (sym e))
+        go e (looks p l b) = absurd (true≢false (sym e))
+        go e (settles p l b) = (p, refl, l)
 
     -- by the step before it
-    next-ready : isDone n T ≡ false → Ready (stabilized w n T)
+    next-ready : isDone n T ≡ false → Ready (stabilized n T)
     unfolding Ready
-    next-ready e q = go (case-of n T)
+    next-ready e q = in-live (stabilized n T .members) (in-next (go e (next-way n T k i) q))
       where
-        go : Case n T → live (stabilized w n T .members) (succOf (stabilized w n T) n) ≡ true
-        go (pending p) = absurd (true≢false (sym (pending-done n T p) ∙ e))
-        go (gone p d) = absurd (true≢false (sym q ∙ (ap isPending (left-gone w n T k i p d) ∙ p)))
-        go (looks p l b) = rw (left-looks w n T k i p l b) (in-live (stabilized w n T .members) (rw (acted-step w T k n i .lasts .same-ids) (live-in (T .members) (succOf T n) l)))
-        go (settles p l b) = absurd (true≢false (sym (settles-done n T p l b) ∙ e))
+        go : {l : List ℕ} {u : Member} → eqb (getD l 0 0) 2 ≡ false → NextWay n T l u → isPending u ≡ true → live (T .members) (successor u) ≡ true
+        go e (takes p l) q = absurd (true≢false e)
+        go e (clears p l) q = absurd (true≢false e)
+        go e (drops p d) q = absurd (true≢false (sym q ∙ p))
+        go e (looks p l b) q = l
+        go e (settles p l b) q = absurd (true≢false e)
 
     -- by the notice: h takes n for its predecessor, or has a live one that is nearer
     met-notice : (h : ℕ) → Heads T h → Calm (rectified h n T) n
     unfolding renews
-    met-notice h s = record { quiet = list .is-pending ∙ s .quiet; lives = rw (is-h, same) (s .lives); met = rw is-h (go (between p n (u .id)) refl (live (T .members) p) refl (ap (λ (x : Member). x .predecessor) (noticed-named w T k h (s .lives) n))) }
+    met-notice h s = record { quiet = list .is-pending ∙ s .quiet; lives = rw (is-h, same) (s .lives); met = rw is-h (go (between p n (u .id)) refl (live (T .members) p) refl (ap (λ (x : Member). x .predecessor) (noticed-named T k h (s .lives) n))) }
       where
         u : Member
         u = named (T .members) h
@@ -226,10 +190,10 @@ module _ (w n : ℕ) where
         p = u .predecessor
 
         same : ids (rectified h n T .members) ≡ ids (T .members)
-        same = acted-notice w T k h (s .lives) n (small w T k n i) .lasts .same-ids
+        same = acted-notice T k h (s .lives) n (small T k n i) .lasts .same-ids
 
         list : SameList (named (rectified h n T .members) n) (named (T .members) n)
-        list = noticed-list w T k h (s .lives) n n
+        list = noticed-list T k h (s .lives) n n
 
         is-h : succOf (rectified h n T) n ≡ h
         is-h = ap (λ (l : List ℕ). getD l 0 0) (list .list) ∙ s .is
@@ -241,36 +205,43 @@ module _ (w n : ℕ) where
         go : (a : Bool) → between p n (u .id) ≡ a → (b : Bool) → live (T .members) p ≡ b → predOf (rectified h n T) h ≡ (if a || not b then withPredecessor n u else u) .predecessor → Met (rectified h n T) n h
         go true ea b eb q = by-own q
         go false ea false eb q = by-own q
-        go false ea true eb q = kept q (other-side (rw (found (T .members) (s .lives) .1) at (false-outside p n (u .id) ea)) (λ e. not-own w T k n i (e ∙ sym (s .is)))) eb
+        go false ea true eb q = kept q (other-side (rw (found (T .members) (s .lives) .1) at (false-outside p n (u .id) ea)) (λ e. not-own T k n i (e ∙ sym (s .is)))) eb
 
     met-delivered : (h : ℕ) → Heads T h → Calm (delivered n h T) n
     unfolding delivered
     met-delivered h s = rw (in-live (T .members) (s .lives)) (met-notice h s)
 
-  calm-last : (T : Table) → Kept w T → In n (ids (T .members)) → isDone n T ≡ true → Ready T → Calm (lastStep w n T) n
+  calm-last : (T : Table) → Kept T → In n (ids (T .members)) → isDone n T ≡ true → Ready T → Calm (lastStep n T) n
   unfolding lastStep
-  calm-last T k i e ready = let a = acted-step w T k n i in met-delivered (stabilized w n T) (a .lasts .kept) (stays-in w n a i) _ (done-head T k i e ready)
+  calm-last T k i e ready = let a = acted-step T k n i in met-delivered (stabilized n T) (a .lasts .kept) (stays-in n a i) _ (done-head T k i e ready)
 
-  calm-until : {T T' : Table} → UntilDone w n T T' → Kept w T → In n (ids (T .members)) → Ready T → Calm T' n
+  calm-until : {T T' : Table} → UntilDone n T T' → Kept T → In n (ids (T .members)) → Ready T → Calm T' n
   calm-until (last {T} e) k i ready = calm-last T k i e ready
-  calm-until (more {T} e d) k i ready = let a = acted-step w T k n i in calm-until d (a .lasts .kept) (stays-in w n a i) (next-ready T k i e)
+  calm-until (more {T} e d) k i ready = let a = acted-step T k n i in calm-until d (a .lasts .kept) (stays-in n a i) (next-ready T k i e)
 
   -- a pending step is finished
-  finished-quiet : (T : Table) → Kept w T → In n (ids (T .members)) → isPending (named (finished w n T .members) n) ≡ false
-  unfolding finished lastStep stabilizeFromPredecessor
+  finished-quiet : (T : Table) → Kept T → In n (ids (T .members)) → isPending (named (finished n T .members) n) ≡ false
+  unfolding finished lastStep
   finished-quiet T k i = go (isPending (named (T .members) n)) refl
     where
-      go : (b : Bool) → isPending (named (T .members) n) ≡ b → isPending (named ((if b then delivered n (getD (nextReply n T) 1 0) (stabilized w n T) else T) .members) n) ≡ false
-      go true e = delivered-list w n _ (stabilized w n T) (acted-step w T k n i .lasts .kept) n .is-pending ∙ ap isPending (left-pending w n T k i e)
+      quiet : {l : List ℕ} {u : Member} → isPending (named (T .members) n) ≡ true → NextWay n T l u → isPending u ≡ false
+      quiet e (takes p l) = refl
+      quiet e (clears p l) = refl
+      quiet e (drops p d) = p
+      quiet e (looks p l b) = absurd (true≢false (sym e ∙ p))
+      quiet e (settles p l b) = p
+
+      go : (b : Bool) → isPending (named (T .members) n) ≡ b → isPending (named ((if b then delivered n (getD (nextReply n T) 1 0) (stabilized n T) else T) .members) n) ≡ false
+      go true e = delivered-list n _ (stabilized n T) (acted-step T k n i .lasts .kept) n .is-pending ∙ quiet e (next-way n T k i)
       go false e = e
 
-  pub calm-turn : (T : Table) → Kept w T → In n (ids (T .members)) → Calm (afterTurn w n T) n
+  pub calm-turn : (T : Table) → Kept T → In n (ids (T .members)) → Calm (afterTurn n T) n
   unfolding Ready
-  calm-turn T k i = let a = acted-finished w n T k i in calm-until (turn-until T k i) (a .lasts .kept) (stays-in w n a i) (λ p. absurd (true≢false (sym p ∙ finished-quiet T k i)))
+  calm-turn T k i = let a = acted-finished n T k i in calm-until (turn-until T k i) (a .lasts .kept) (stays-in n a i) (λ p. absurd (true≢false (sym p ∙ finished-quiet T k i)))
 
 -- n stays calm while others take their turns: its list stays, and a live predecessor of its successor only comes nearer
-pub calm-stays : (w n x : ℕ) (T T' : Table) → Acted w n T T' → In n (ids (T .members)) → In x (ids (T .members)) → (x ≡ n → ⊥) → Calm T x → Calm T' x
-calm-stays w n x T T' a i j d c = record { quiet = same .is-pending ∙ c .quiet; lives = rw (is, a .lasts .same-ids) (c .lives); met = rw is (go (a .predecessors z) (c .met)) }
+pub calm-stays : (n x : ℕ) (T T' : Table) → Acted n T T' → In n (ids (T .members)) → In x (ids (T .members)) → (x ≡ n → ⊥) → Calm T x → Calm T' x
+calm-stays n x T T' a i j d c = record { quiet = same .is-pending ∙ c .quiet; lives = rw (is, a .lasts .same-ids) (c .lives); met = rw is (go (a .predecessors z) (c .met)) }
   where
     z : ℕ
     z = succOf T x

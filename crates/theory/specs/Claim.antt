@@ -7,8 +7,8 @@ use mathlib.Core.Option.{some}
 use lib.Dec.{ltb}
 use lib.ListN.{length, getD}
 use Rattle.model.specs.Lists.{every, select, count}
-use Rattle.model.specs.Identifier.{space, between}
-use Rattle.model.specs.Table.{Member, tableOf, membersIn, ids, wellFormed}
+use Rattle.model.specs.Identifier.{between}
+use Rattle.model.specs.Table.{Member, spaceOf, tableOf, membersIn, ids, wellFormed}
 use Rattle.model.specs.Ring.{live, named, principal, sound, bestSuccessor, moved, onRing, ringMembers, nextUp}
 use Rattle.model.specs.Run.{Call, numbersOf, run, granted}
 
@@ -53,7 +53,7 @@ pub record Holds (ws : List ℕ) : Type 0 where
 
 -- where a list of calls may start: a sound table, identifiers in the calls, and each accepted loss one that a withdrawal would have been granted
 pub record Starts (cs : List Call) (ws : List ℕ) : Type 0 where
-  pub identifiers : every (λ c. every (λ x. ltb x space) (numbersOf c)) cs ≡ true
+  pub identifiers : every (λ c. every (λ x. ltb x (spaceOf (tableOf ws))) (numbersOf c)) cs ≡ true
   pub well-formed : wellFormed ws ≡ true
   pub is-sound : sound (tableOf ws) ≡ true
   pub grants : granted cs ws ≡ true

@@ -124,16 +124,16 @@ module _ (xs : List ℕ) (rise : Rising xs) (pr : ℕ → Bool) where
 
   -- Rounds
 
-  module _ (w r : ℕ) (some : 1 ≤ length xs) where
+  module _ (r : ℕ) (some : 1 ≤ length xs) where
     -- no principal lies between a member and its successor
-    skipped : (T : Table) → Common w r xs pr T → (n q : ℕ) → In n xs → In q xs → Inside n q (succOf T n) → pr q ≡ false
+    skipped : (T : Table) → Common r xs pr T → (n q : ℕ) → In n xs → In q xs → Inside n q (succOf T n) → pr q ≡ false
     skipped T c n q i j h = go (pr q) refl
       where
         out : pr q ≡ true → Outside n q (succOf T n)
         out e =
-            let f = found (T .members) (among w r xs pr c i) in
+            let f = found (T .members) (among r xs pr c i) in
             head-clear q n (named (T .members) n .successors) (omega (arith, c .kept .formed .each (named (T .members) n) (f .0) .list-length, c .kept .formed .r-low))
-            (of-named (λ y l. Clear q y l) (T .members) (λ m k. principal-clear q (c .spares q j e) k) (among w r xs pr c i))
+            (of-named (λ y l. Clear q y l) (T .members) (λ m k. principal-clear q (c .spares q j e) k) (among r xs pr c i))
 
         go : (b : Bool) → pr q ≡ b → b ≡ false
         go true e = absurd (inside-outside h (out e))
@@ -161,23 +161,23 @@ module _ (xs : List ℕ) (rise : Rising xs) (pr : ℕ → Bool) where
     Wrong k T x = (succOf T x ≡ nextUp xs x → ⊥) → Far k (succOf T x)
 
     pub record Fars (k : ℕ) (T : Table) : Type 0 where
-      pub all : AllCalm w r xs pr T
+      pub all : AllCalm r xs pr T
       pub far : (x : ℕ) → In x xs → Wrong k T x
 
     module _ (k : ℕ) (n : ℕ) (T : Table) (i : In n xs) (v : Fars k T) where
-      c : Common w r xs pr T
+      c : Common r xs pr T
       c = v .all .common
 
       alive : (x : ℕ) → In x xs → In (succOf T x) xs
       alive x j = rw (c .is-ids) at (v .all .calm x j .lives)
 
       not-self : (x : ℕ) → In x xs → x ≡ succOf T x → ⊥
-      not-self x j = not-own w T (c .kept) x (among w r xs pr c j)
+      not-self x j = not-own T (c .kept) x (among r xs pr c j)
 
-      turn : Turned T (afterTurn w n T) n
-      turn = turned w n T (c .kept) (among w r xs pr c i) (v .all .calm n i)
+      turn : Turned T (afterTurn n T) n
+      turn = turned n T (c .kept) (among r xs pr c i) (v .all .calm n i)
 
-      is-next : succOf (afterTurn w n T) n ≡ turn .next
+      is-next : succOf (afterTurn n T) n ≡ turn .next
       is-next = ap (λ (l : List ℕ). getD l 0 0) (turn .list)
 
       abbrev Which : Type 0
@@ -216,7 +216,7 @@ module _ (xs : List ℕ) (rise : Rising xs) (pr : ℕ → Bool) where
         further f (inl h) = rw (h .1) f
         further f (inr h) = far-less (suc k) (turn .next) (far-fill n (succOf T n) (alive n i) (λ q j h. skipped T c n q i j h) (suc k) (turn .next) (rw (c .is-ids) at (h .1)) (h .2) f)
 
-      far-own : Wrong (suc k) (afterTurn w n T) n
+      far-own : Wrong (suc k) (afterTurn n T) n
       far-own wrong = rw is-next (go (equal? (succOf T n) (nextUp xs n)))
         where
           sub : (succOf T n ≡ nextUp xs n → ⊥) → (b : Behind n (succOf T n)) → (succOf T (b .before) ≡ succOf T n) ⊎ (succOf T (b .before) ≡ succOf T n → ⊥) → Far (suc k) (turn .next)
@@ -227,22 +227,22 @@ module _ (xs : List ℕ) (rise : Rising xs) (pr : ℕ → Bool) where
           go (inl e) = absurd (wrong (is-next ∙ right-stays e (turn .which)))
           go (inr ne) = let b = behind n (succOf T n) i (alive n i) (not-self n i) ne in sub ne b (equal? (succOf T (b .before)) (succOf T n))
 
-      far-other : (m x : ℕ) → In x xs → (x ≡ n → ⊥) → Wrong m T x → Wrong m (afterTurn w n T) x
+      far-other : (m x : ℕ) → In x xs → (x ≡ n → ⊥) → Wrong m T x → Wrong m (afterTurn n T) x
       far-other m x j d f wrong =
-          let e = ap (λ (l : List ℕ). getD l 0 0) (acted-turn w n T (c .kept) (among w r xs pr c i) .others x d .list) in
+          let e = ap (λ (l : List ℕ). getD l 0 0) (acted-turn n T (c .kept) (among r xs pr c i) .others x d .list) in
           rw e (f (λ q. wrong (e ∙ q)))
 
-    fars-turn : (k n : ℕ) (T : Table) → In n xs → Fars k T → Fars k (afterTurn w n T)
-    fars-turn k n T i v = record { all = all-calm-turn w r xs pr n T i (v .all); far = λ x j. go x j (equal? x n) }
+    fars-turn : (k n : ℕ) (T : Table) → In n xs → Fars k T → Fars k (afterTurn n T)
+    fars-turn k n T i v = record { all = all-calm-turn r xs pr n T i (v .all); far = λ x j. go x j (equal? x n) }
       where
-        go : (x : ℕ) → In x xs → (x ≡ n) ⊎ (x ≡ n → ⊥) → Wrong k (afterTurn w n T) x
+        go : (x : ℕ) → In x xs → (x ≡ n) ⊎ (x ≡ n → ⊥) → Wrong k (afterTurn n T) x
         go x j (inl e) = rw e (λ wrong. far-less k _ (far-own k n T i v wrong))
         go x j (inr d) = far-other k n T i v k x j d (v .far x j)
 
     -- a round more, a member further
-    pub fars-round : (k : ℕ) (T : Table) → Fars k T → Fars (suc k) (afterRound w T)
+    pub fars-round : (k : ℕ) (T : Table) → Fars k T → Fars (suc k) (afterRound T)
     fars-round k T v =
-        let g = round-gives w xs (Fars k) (λ x U. Wrong (suc k) U x) (fars-turn k) (far-own k) (λ n x U i j d u f. far-other k n U i u (suc k) x j d f) T (v .all .common .is-ids) v in
+        let g = round-gives xs (Fars k) (λ x U. Wrong (suc k) U x) (fars-turn k) (far-own k) (λ n x U i j d u f. far-other k n U i u (suc k) x j d f) T (v .all .common .is-ids) v in
         record { all = g .0 .all; far = g .1 }
 
     -- none is wrong where even the member before it would be too far
@@ -256,7 +256,7 @@ module _ (xs : List ℕ) (rise : Rising xs) (pr : ℕ → Bool) where
             absurd (omega (arith, far-few some p ip ep (suc k) (b .before) (b .member) (d-none k x T i v ne b, rw (b .up) (v .far x i ne))))
 
     -- a turn of a member whose successor is right: it stays, and its list is followed
-    pub right-turn : (n : ℕ) (T : Table) → In n xs → AllCalm w r xs pr T → succOf T n ≡ nextUp xs n → named (afterTurn w n T .members) n .successors ≡ nextUp xs n ∷ withoutLast (named (T .members) (nextUp xs n) .successors)
+    pub right-turn : (n : ℕ) (T : Table) → In n xs → AllCalm r xs pr T → succOf T n ≡ nextUp xs n → named (afterTurn n T .members) n .successors ≡ nextUp xs n ∷ withoutLast (named (T .members) (nextUp xs n) .successors)
     right-turn n T i a e =
         let v : Fars 0 T = record { all = a; far = λ x j ne. tt } in
         let t = turn 0 n T i v in

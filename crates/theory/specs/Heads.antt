@@ -8,23 +8,28 @@ use native.Mathlib.Omega.{arith}
 use lib.Dec.{eqb}
 use lib.ListN.{length, getD}
 use borrow.Author.Tests.{eqb-true, eqb-false, not-true}
-use Rattle.model.specs.Lists.{if_then_else_}
-use Rattle.model.specs.Identifier.{space}
-use Rattle.model.specs.Table.{Member, Table, ids, tableOf, membersIn, wellFormed}
-use Rattle.model.specs.Ring.{live, named, successor, isPending, Search, bestSuccessor}
-use Rattle.model.specs.Answer.{Answer, accepted, answer}
-use Rattle.model.specs.Steps.{joiner, inserted, joined, dropHead, adopt, awaitCandidate, clearPending, offered, isBetter, stabilizeFromSuccessor, stabilizeFromPredecessor, stabilize, stabilizeReply, stabilized, replaced, rectifyIn, rectified}
-use Rattle.model.specs.Refusals.{joinRefusal, memberRefusal, leaveRefusal}
-use Rattle.model.specs.Calls.{written, joinAnswer, joinWords, stabilizeAnswer, stabilizeWords, rectifyWords, failAnswer, failWords, leaveAnswer, leaveWords}
-use Rattle.model.specs.Run.{Call, Join, Leave, Fail, Stabilize, Rectify, Lookup, Audit, callAnswer, callWords, run, accepts, goes, noneGoes}
-use Rattle.laws.specs.Lists.{and-true, In, found, live-in, in-live}
-use Rattle.laws.specs.Accepted.{answer-number, afterwards-has, join-accepted, member-table, member-accepted}
-use Rattle.laws.specs.Tables.{wellFormed-facts}
-use Rattle.laws.specs.Stabilize.{same-id}
+use Rattle.model.specs.Table.{Member, Table, spaceOf, ids, tableOf, membersIn, wellFormed}
+use Rattle.model.specs.Ring.{live, named, successor, principal, Search, bestSuccessor}
+use Rattle.model.specs.Answer.{Answer, accepted, answer, afterwards}
+use Rattle.model.specs.Steps.{joiner, inserted, joined, stabilize, stabilizeReply, stabilized, replaced, rectifyIn, rectified}
+use Rattle.model.specs.Settle.{afterRound, afterRounds, roundsRun}
+use Rattle.model.specs.Refusals.{joinRefusal, memberRefusal, leaveRefusal, settleRefusal}
+use Rattle.model.specs.Calls.{written, joinAnswer, joinWords, stabilizeAnswer, stabilizeWords, rectifyWords, failAnswer, failWords, leaveAnswer, leaveWords, roundWords, settleWords}
+use Rattle.model.specs.Run.{Call, Join, Leave, Fail, Stabilize, Rectify, Lookup, Audit, callAnswer, callWords, accepts, goes}
+use Rattle.model.specs.Service.{Service, Called, Round, Settle, serviceWords, served, goesService, noneGoes}
+use Rattle.laws.specs.Fold.{all-keep}
+use Rattle.laws.specs.Lists.{In, found, live-in, in-live}
+use Rattle.laws.specs.Accepted.{answer-number, afterwards-has, join-accepted, member-table, member-accepted, settle-accepted}
+use Rattle.laws.specs.Tables.{wellFormed-facts, formed-lists}
+use Rattle.laws.specs.Stabilize.{Way, takes, clears, drops, looks, settles, way-of, same-id}
+use Rattle.laws.specs.Words.{written-table}
 use Rattle.laws.specs.Rectify.{rectify-same}
 use Rattle.laws.specs.Searches.{found-first}
-use Rattle.theory.specs.Keep.{Changed, replaced-changed, replaced-named, replaced-others, inserted-changed, inserted-in, inserted-named, inserted-others}
+use Rattle.theory.specs.Keep.{Kept, Changed, replaced-changed, replaced-named, replaced-others, inserted-changed, inserted-in, inserted-named, inserted-others}
 use Rattle.theory.specs.Left.{joiner-listed, stabilize-listed, rectify-listed, joined-read, stabilized-read, rectified-read}
+use Rattle.theory.specs.Runs.{good-kept}
+use Rattle.theory.specs.Turns.{round-lasts, rounds-last}
+use Rattle.theory.specs.Rounds.{calm-round}
 
 -- n is a member and its first entry is one: so its best successor is its first entry, and its stabilize step does not reply "again"
 pub record LiveHead (ws : List ℕ) (n : ℕ) : Type 0 where
@@ -60,18 +65,27 @@ replaced-headed ms v n h i f s = go (eqb (v .id) n) refl
 
 -- whatever is adopted is a member
 stabilize-head : (w : ℕ) (ms : List Member) (m : Member) → live ms (successor m) ≡ true → live ms (successor (stabilize w ms m)) ≡ true
-unfolding stabilize stabilizeFromSuccessor stabilizeFromPredecessor
-stabilize-head w ms m h = go (isPending m) (live ms (m .candidate)) refl (live ms (successor m)) refl (isBetter ms m)
+stabilize-head w ms m h = go (way-of w ms m)
   where
-    go : (a b : Bool) → live ms (m .candidate) ≡ b → (c : Bool) → live ms (successor m) ≡ c → (d : Bool) →
-        live ms (successor (if a then clearPending (if b then adopt (m .candidate) (named ms (m .candidate) .successors) m else m)
-        else if c then (if d then awaitCandidate (offered ms m) (adopt (successor m) (named ms (successor m) .successors) m) else adopt (successor m) (named ms (successor m) .successors) m)
-        else dropHead w m)) ≡ true
-    go true true eb c ec d = eb
-    go true false eb c ec d = h
-    go false b eb true ec true = h
-    go false b eb true ec false = h
-    go false b eb false ec d = absurd (true≢false (sym h ∙ ec))
+    go : {l : List ℕ} {u : Member} → Way w ms m l u → live ms (successor u) ≡ true
+    go (takes p l) = l
+    go (clears p l) = h
+    go (drops p l) = absurd (true≢false (sym h ∙ l))
+    go (looks p l b) = h
+    go (settles p l b) = h
+
+-- after a round of a sound table every member has a live first entry: it is calm
+round-headed : (T : Table) → Kept T → (n : ℕ) → Headed (T .members) n → Headed (afterRound T .members) n
+round-headed T k n h =
+    let ms = afterRound T .members in
+    let i = live-in (T .members) n (h .member) in
+    let a = calm-round (T .r) (ids (T .members)) (principal (T .members)) T (record { kept = k; is-r = refl; is-ids = refl; spares = λ q j p. p }) in
+    let j : In n (ids ms) = rw (a .common .is-ids) i in
+    record { member = in-live ms j; first-live = in-live ms (a .calm n i .lives); some-entry = omega (arith, a .common .kept .formed .each (named ms n) (found ms j .0) .list-length, a .common .kept .formed .r-low) }
+
+rounds-headed : (j : ℕ) (T : Table) → Kept T → (n : ℕ) → Headed (T .members) n → Headed (afterRounds j T .members) n
+rounds-headed zero T k n h = h
+rounds-headed (suc j) T k n h = rounds-headed j (afterRound T) (round-lasts T k .kept) n (round-headed T k n h)
 
 -- Each call
 
@@ -111,15 +125,15 @@ module _ (ws : List ℕ) where
 
     stabilize-headed : (m : ℕ) → Has n (stabilizeWords ws m)
     unfolding stabilizeWords
-    stabilize-headed m = afterwards-has (Has n) (memberRefusal ws m) (written (stabilized space m (tableOf ws)) ws) ws go h
+    stabilize-headed m = afterwards-has (Has n) (memberRefusal ws m) (written (stabilized m (tableOf ws)) ws) ws go h
       where
-        go : memberRefusal ws m ≡ 0 → Has n (written (stabilized space m (tableOf ws)) ws)
+        go : memberRefusal ws m ≡ 0 → Has n (written (stabilized m (tableOf ws)) ws)
         go e =
             let ms = membersIn ws in
             let i = live-in ms m (member-accepted ws m e) in
-            let same : stabilize space ms (named ms m) .id ≡ m = same-id ms (named ms m) space ∙ found ms i .1 in
-            read-headed (stabilized space m (tableOf ws)) ws (stabilized-read ws m e) (replaced-headed ms (stabilize space ms (named ms m)) n h (subst (λ (x : ℕ). In x (ids ms)) (sym same) i)
-            (λ q. stabilize-head space ms (named ms m) (subst (λ (x : ℕ). live ms (successor (named ms x)) ≡ true) (sym q ∙ same) (h .first-live)))
+            let same : stabilize (spaceOf (tableOf ws)) ms (named ms m) .id ≡ m = same-id ms (named ms m) (spaceOf (tableOf ws)) ∙ found ms i .1 in
+            read-headed (stabilized m (tableOf ws)) ws (stabilized-read ws m e) (replaced-headed ms (stabilize (spaceOf (tableOf ws)) ms (named ms m)) n h (subst (λ (x : ℕ). In x (ids ms)) (sym same) i)
+            (λ q. stabilize-head (spaceOf (tableOf ws)) ms (named ms m) (subst (λ (x : ℕ). live ms (successor (named ms x)) ≡ true) (sym q ∙ same) (h .first-live)))
             (low _ (member-table ws m e) (stabilize-listed ws m e)))
 
     rectify-headed : (m q : ℕ) → Has n (rectifyWords ws m q)
@@ -136,6 +150,17 @@ module _ (ws : List ℕ) where
             (λ d. ap (λ (l : List ℕ). live ms (getD l 0 0)) (r .list) ∙ subst (λ (x : ℕ). live ms (successor (named ms x)) ≡ true) (sym d ∙ same) (h .first-live))
             (low _ (member-table ws m e) (rectify-listed ws m q e)))
 
+-- rounds, on a sound table
+upkeep-headed : (ws : List ℕ) (n : ℕ) → Has n ws → (j : ℕ) → Has n (afterwards (settleRefusal ws) (written (afterRounds j (tableOf ws)) ws) ws)
+upkeep-headed ws n h j = afterwards-has (Has n) (settleRefusal ws) (written (afterRounds j (tableOf ws)) ws) ws go h
+  where
+    go : settleRefusal ws ≡ 0 → Has n (written (afterRounds j (tableOf ws)) ws)
+    go e =
+        let a = settle-accepted ws e in
+        let k = good-kept ws (record { well-formed = a .0; is-sound = a .1 }) in
+        let U = afterRounds j (tableOf ws) in
+        read-headed U ws (written-table U ws (formed-lists U (rounds-last j (tableOf ws) k .kept .formed))) (rounds-headed j (tableOf ws) k n h)
+
 call-headed : (c : Call) (ws : List ℕ) (n : ℕ) → Has n ws → not (goes ws c) ≡ true → Has n (callWords ws c)
 unfolding callWords goes callAnswer leaveAnswer leaveWords failAnswer failWords
 call-headed (Join j p) ws n h g = join-headed ws n h j p
@@ -146,21 +171,27 @@ call-headed (Rectify m q) ws n h g = rectify-headed ws n h m q
 call-headed (Lookup m k) ws n h g = h
 call-headed Audit ws n h g = h
 
-run-headed : (cs : List Call) (ws : List ℕ) (n : ℕ) → Has n ws → noneGoes cs ws ≡ true → Has n (run cs ws)
-unfolding run noneGoes
-run-headed [] ws n h g = h
-run-headed (c ∷ cs) ws n h g = let b = and-true (not (goes ws c)) _ g in run-headed cs (callWords ws c) n (call-headed c ws n h (b .0)) (b .1)
+service-headed : (n : ℕ) (s : Service) (ws : List ℕ) → not (goesService ws s) ≡ true → Has n ws → Has n (serviceWords ws s)
+unfolding serviceWords goesService roundWords settleWords
+service-headed n (Called c) ws g h = call-headed c ws n h g
+service-headed n Round ws g h = upkeep-headed ws n h 1
+service-headed n (Settle limit) ws g h = upkeep-headed ws n h (roundsRun limit (tableOf ws))
+
+served-headed : (ss : List Service) (ws : List ℕ) (n : ℕ) → Has n ws → noneGoes ss ws ≡ true → Has n (served ss ws)
+unfolding served noneGoes
+served-headed ss ws n h g = all-keep serviceWords (Has n) (λ us s. not (goesService us s)) (service-headed n) ss ws g h
 
 -- What follows for n
 
 reply-not-again : (ms : List Member) (m : Member) → live ms (successor m) ≡ true → stabilizeReply ms m ≡ 0 ∷ [] → ⊥
-unfolding stabilizeReply
-reply-not-again ms m h e = go (isPending m) (isBetter ms m) (rw h at e)
+reply-not-again ms m h e = go (way-of 0 ms m) e
   where
-    go : (a b : Bool) → (if a then 2 ∷ successor (stabilizeFromPredecessor ms m) ∷ [] else if b then 1 ∷ offered ms m ∷ [] else 2 ∷ successor m ∷ []) ≡ 0 ∷ [] → ⊥
-    go true b e = omega (arith, ap (λ (l : List ℕ). getD l 0 0) e)
-    go false true e = omega (arith, ap (λ (l : List ℕ). getD l 0 0) e)
-    go false false e = omega (arith, ap (λ (l : List ℕ). getD l 0 0) e)
+    go : {l : List ℕ} {u : Member} → Way 0 ms m l u → l ≡ 0 ∷ [] → ⊥
+    go (takes p l) e = omega (arith, ap (λ (l : List ℕ). getD l 0 0) e)
+    go (clears p l) e = omega (arith, ap (λ (l : List ℕ). getD l 0 0) e)
+    go (drops p l) e = true≢false (sym h ∙ l)
+    go (looks p l b) e = omega (arith, ap (λ (l : List ℕ). getD l 0 0) e)
+    go (settles p l b) e = omega (arith, ap (λ (l : List ℕ). getD l 0 0) e)
 
 live-head : (ws : List ℕ) (n : ℕ) → Has n ws → LiveHead ws n
 unfolding stabilizeAnswer
@@ -175,11 +206,11 @@ live-head ws n h = record {
     go zero e = reply-not-again (membersIn ws) (named (membersIn ws) n) (h .first-live) (ap (λ (a : Answer). a .values) e)
     go (suc k) e = omega (arith, ap (λ (a : Answer). a .number) e)
 
--- after every list of calls by which no member goes, whatever else is among them: whoever was a member with a live first entry is one still
-pub heads-stay : (cs : List Call) (ws : List ℕ) (n : ℕ) → wellFormed ws ≡ true → live (membersIn ws) n ≡ true → live (membersIn ws) (successor (named (membersIn ws) n)) ≡ true → noneGoes cs ws ≡ true → LiveHead (run cs ws) n
-heads-stay cs ws n w l f g = live-head (run cs ws) n (run-headed cs ws n (record { member = l; first-live = f; some-entry = low ws _ w (wellFormed-facts ws w .table .each (named (membersIn ws) n) (found (membersIn ws) (live-in (membersIn ws) n l) .0) .list-length) }) g)
+-- after every list of calls, rounds and settles by which no member goes: whoever was a member with a live first entry is one still
+pub heads-stay : (ss : List Service) (ws : List ℕ) (n : ℕ) → wellFormed ws ≡ true → live (membersIn ws) n ≡ true → live (membersIn ws) (successor (named (membersIn ws) n)) ≡ true → noneGoes ss ws ≡ true → LiveHead (served ss ws) n
+heads-stay ss ws n w l f g = live-head (served ss ws) n (served-headed ss ws n (record { member = l; first-live = f; some-entry = low ws _ w (wellFormed-facts ws w .table .each (named (membersIn ws) n) (found (membersIn ws) (live-in (membersIn ws) n l) .0) .list-length) }) g)
 
 -- and so is a new member, at once and then
-pub new-head : (cs : List Call) (ws : List ℕ) (j p : ℕ) → accepts ws (Join j p) ≡ true → noneGoes cs (callWords ws (Join j p)) ≡ true → LiveHead (run cs (callWords ws (Join j p))) j
+pub new-head : (ss : List Service) (ws : List ℕ) (j p : ℕ) → accepts ws (Join j p) ≡ true → noneGoes ss (callWords ws (Join j p)) ≡ true → LiveHead (served ss (callWords ws (Join j p))) j
 unfolding callAnswer joinAnswer callWords
-new-head cs ws j p a g = live-head _ j (run-headed cs (joinWords ws j p) j (new-headed ws j p (sym (answer-number (joinRefusal ws j p) _) ∙ eqb-true _ 0 a)) g)
+new-head ss ws j p a g = live-head _ j (served-headed ss (joinWords ws j p) j (new-headed ws j p (sym (answer-number (joinRefusal ws j p) _) ∙ eqb-true _ 0 a)) g)

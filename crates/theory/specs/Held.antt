@@ -10,9 +10,8 @@ use lib.Dec.{ltb, leb, eqb, leb·zero}
 use lib.ListN.{length, getD}
 use borrow.Author.Tests.{lt-ltb, le-ltb, le-leb, lt-leb, eq-eqb, ne-eqb, leb-true}
 use Rattle.model.specs.Lists.{bit, rising}
-use Rattle.model.specs.Identifier.{space}
 use Rattle.model.specs.Table.{Member, Table, tableOf, membersIn, ids, wellFormed}
-use Rattle.model.specs.Ring.{live, named, successor, Search, searched, bestSuccessor, nextUp, nextDown, ideal}
+use Rattle.model.specs.Ring.{live, successor, Search, searched, bestSuccessor, nextUp, nextDown, ideal}
 use Rattle.model.specs.Held.{firstFrom, lowest, holder, keysTo, Run, _upTo_, runsOf}
 use Rattle.model.specs.Calls.{lookupAnswer}
 use Rattle.laws.specs.Order.{Comparison, less, equals, greater, compare, less?, equal?, Inside, mid, high, low, Outside, below, beyond, rest, inside-true, true-inside, inside-outside}
@@ -212,22 +211,22 @@ ideal-successor : (T : Table) → 1 ≤ T .r → ideal T ≡ true → {m : Membe
 ideal-successor T some-entry h {m} i = ap (λ (l : List ℕ). getD l 0 0) (ideal-facts T h .each m i .list) ∙ next-ups-first (T .r) (ids (T .members)) (m .id) some-entry
 
 -- each member's search finds the next member up at once
-pub ideal-found : (w : ℕ) (T : Table) → Formed w T → ideal T ≡ true → {m : Member} → In m (T .members) → searched (T .members) (m .successors) ≡ record { entry = some (nextUp (ids (T .members)) (m .id)); passed = 0 }
-ideal-found w T fo h {m} i =
+pub ideal-found : (T : Table) → Formed T → ideal T ≡ true → {m : Member} → In m (T .members) → searched (T .members) (m .successors) ≡ record { entry = some (nextUp (ids (T .members)) (m .id)); passed = 0 }
+ideal-found T fo h {m} i =
     let ms : List Member = T .members in
     let s : successor m ≡ nextUp (ids ms) (m .id) = ideal-successor T (fo .r-low) h i in
     let l : live ms (successor m) ≡ true = rw s (in-live ms (up-in (ids ms) (in-some (in-ids i)) (m .id))) in
     found-first ms (m .successors) (omega (arith, fo .each m i .list-length, fo .r-low)) l ∙ ap (λ (x : ℕ). record { entry = some x; passed = 0 }) s
 
-ideal-best : (w : ℕ) (T : Table) → Formed w T → ideal T ≡ true → {q : ℕ} → In q (ids (T .members)) → bestSuccessor (T .members) q ≡ some (nextUp (ids (T .members)) q)
-ideal-best w T fo h {q} i = let f = found (T .members) i in ap (λ (s : Search). s .entry) (ideal-found w T fo h (f .0)) ∙ ap (λ (x : ℕ). some (nextUp (ids (T .members)) x)) (f .1)
+ideal-best : (T : Table) → Formed T → ideal T ≡ true → {q : ℕ} → In q (ids (T .members)) → bestSuccessor (T .members) q ≡ some (nextUp (ids (T .members)) q)
+ideal-best T fo h {q} i = let f = found (T .members) i in ap (λ (s : Search). s .entry) (ideal-found T fo h (f .0)) ∙ ap (λ (x : ℕ). some (nextUp (ids (T .members)) x)) (f .1)
 
 module _ (ws : List ℕ) (wf : wellFormed ws ≡ true) (h : ideal (tableOf ws) ≡ true) where
-  fo : Formed space (tableOf ws)
+  fo : Formed (tableOf ws)
   fo = wellFormed-facts ws wf .table
 
   moves-up : (q : ℕ) → live (membersIn ws) q ≡ true → bestSuccessor (membersIn ws) q ≡ some (nextUp (ids (membersIn ws)) q)
-  moves-up q l = ideal-best space (tableOf ws) fo h (live-in (membersIn ws) q l)
+  moves-up q l = ideal-best (tableOf ws) fo h (live-in (membersIn ws) q l)
 
   -- from every member, for every key
   pub finds-holder : (n k : ℕ) → live (membersIn ws) n ≡ true → Finds ws n k (holder (membersIn ws) k)

@@ -2,44 +2,43 @@
 use mathlib.Core.Path.{_≡_, refl, sym, ap, subst, _∙_}
 use mathlib.Core.Bool.{true, not, _&&_}
 use mathlib.Core.List.{List, [], _∷_}
-use Prim.Native.Nat.{ℕ, _≤_, _<_}
+use Prim.Native.Nat.{ℕ, _≤_}
 use native.Mathlib.Omega.{arith}
 use lib.ListN.{length, take, drop}
 use lib.Dec.{ltb}
-use lib.Seq.{take-at, drop-at}
+use lib.Seq.{take-at}
 use borrow.Author.Tests.{le-ltb, ltb-false, not-false}
 use Rattle.model.specs.Lists.{same, overlay}
-use Rattle.model.specs.Identifier.{space}
-use Rattle.model.specs.Table.{Table, size, tableOf, wordsOf, formed, wellFormed}
+use Rattle.model.specs.Table.{Table, size, tableOf, formed, wellFormed}
 use Rattle.model.specs.Answer.{accepted}
 use Rattle.model.specs.Image.{imageOf, tableIn, isImage}
 use Rattle.model.specs.Refusals.{writeRefusal, readRefusal}
 use Rattle.model.specs.Calls.{written, writeBytes, readAnswer, readWords}
 use Rattle.laws.specs.Lists.{and-true, true-and, same-eq, same-refl}
 use Rattle.laws.specs.Accepted.{answer-number, none-applies}
-use Rattle.laws.specs.Words.{words-length, written-table, written-length}
+use Rattle.laws.specs.Words.{written-table, written-length, written-rest}
 use Rattle.laws.specs.Tables.{formed-facts, facts-formed, wellFormed-facts, facts-wellFormed, formed-lists, written-formed}
 use Rattle.laws.specs.Bytes.{image-read}
 
 -- the image of a well-formed table is an image, and says that table
-pub read-written : (T : Table) → formed space T ≡ true → (isImage (imageOf T) ≡ true) × (tableIn (imageOf T) ≡ T)
+pub read-written : (T : Table) → formed T ≡ true → (isImage (imageOf T) ≡ true) × (tableIn (imageOf T) ≡ T)
 unfolding isImage
 read-written T h =
-    let back = image-read T (formed-facts space T h) in
-    (ap (λ (U : Table). formed space U && same (imageOf U) (imageOf T)) back ∙ true-and h (same-refl (imageOf T)), back)
+    let back = image-read T (formed-facts T h) in
+    (ap (λ (U : Table). formed U && same (imageOf U) (imageOf T)) back ∙ true-and h (same-refl (imageOf T)), back)
 
 -- an image is the writing of the table that it says
 pub written-read : (bs : List ℕ) → isImage bs ≡ true → imageOf (tableIn bs) ≡ bs
 unfolding isImage
-written-read bs h = same-eq (imageOf (tableIn bs)) bs (and-true (formed space (tableIn bs)) _ h .1)
+written-read bs h = same-eq (imageOf (tableIn bs)) bs (and-true (formed (tableIn bs)) _ h .1)
 
 -- which is well-formed
-pub read-formed : (bs : List ℕ) → isImage bs ≡ true → formed space (tableIn bs) ≡ true
+pub read-formed : (bs : List ℕ) → isImage bs ≡ true → formed (tableIn bs) ≡ true
 unfolding isImage
-read-formed bs h = and-true (formed space (tableIn bs)) _ h .0
+read-formed bs h = and-true (formed (tableIn bs)) _ h .0
 
 -- bytes are accepted if and only if they are the writing of a well-formed table
-pub accepted-iff : (bs : List ℕ) → (isImage bs ≡ true → (T : Table) × (formed space T ≡ true) × (imageOf T ≡ bs)) × (((T : Table) × (formed space T ≡ true) × (imageOf T ≡ bs)) → isImage bs ≡ true)
+pub accepted-iff : (bs : List ℕ) → (isImage bs ≡ true → (T : Table) × (formed T ≡ true) × (imageOf T ≡ bs)) × (((T : Table) × (formed T ≡ true) × (imageOf T ≡ bs)) → isImage bs ≡ true)
 accepted-iff bs = (λ h. (tableIn bs, read-formed bs h, written-read bs h), λ w. rw (w .2) at (read-written (w .0) (w .1) .0))
 
 -- The calls
@@ -58,7 +57,7 @@ read-words ws bs h fits = rw (h, le-ltb (length ws) (size (tableIn bs)) fits)
 pub read-back : (ws bs vs : List ℕ) → wellFormed ws ≡ true → length (imageOf (tableOf ws)) ≤ length bs → size (tableOf ws) ≤ length vs → readWords vs (take (length (imageOf (tableOf ws))) (writeBytes ws bs)) ≡ written (tableOf ws) vs
 read-back ws bs vs h room fits =
     let T : Table = tableOf ws in
-    let back = read-written T (facts-formed space T (wellFormed-facts ws h .table)) in
+    let back = read-written T (facts-formed T (wellFormed-facts ws h .table)) in
     let n : ℕ = length (imageOf T) in
     ap (λ (l : List ℕ). readWords vs (take n l)) (written-bytes ws bs h room)
     ∙ ap (readWords vs) (take-at (imageOf T) (drop n bs) n refl)
@@ -69,7 +68,7 @@ read-back ws bs vs h room fits =
 
 -- the bytes are the writing of the well-formed table T, which fits n words
 pub record WritingOf (T : Table) (n : ℕ) (bs : List ℕ) : Type 0 where
-  pub is-formed : formed space T ≡ true
+  pub is-formed : formed T ≡ true
   pub written-as : imageOf T ≡ bs
   pub fits : size T ≤ n
 
@@ -93,15 +92,15 @@ yields : (ws bs : List ℕ) → isImage bs ≡ true → size (tableIn bs) ≤ le
 unfolding readAnswer readRefusal
 yields ws bs h fits =
     let T : Table = tableIn bs in
-    let f = formed-facts space T (read-formed bs h) in
+    let f = formed-facts T (read-formed bs h) in
     let e = read-words ws bs h fits in
-    let n = formed-lists space T f in
+    let n = formed-lists T f in
     record {
       answer = rw (h, le-ltb (length ws) (size T) fits);
       table = ap tableOf e ∙ written-table T ws n;
       holds-it = ap wellFormed e ∙ facts-wellFormed (written T ws) (written-formed T ws f fits);
       same-length = ap length e ∙ written-length T ws n fits;
-      later = ap (drop (size T)) e ∙ drop-at (wordsOf T) (drop (length (wordsOf T)) ws) (size T) (words-length T n) ∙ ap (λ (k : ℕ). drop k ws) (words-length T n);
+      later = ap (drop (size T)) e ∙ written-rest T ws (size T) n refl;
     }
 
 -- an image is accepted exactly when it is the writing of some well-formed table that fits the lent slice, and reading it yields that table

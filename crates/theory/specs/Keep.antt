@@ -7,24 +7,22 @@ use Prim.Native.Nat.{ℕ, suc, _≤_, _<_}
 use native.Mathlib.Omega.{arith}
 use lib.ListN.{length}
 use lib.Dec.{ltb, eqb}
-use borrow.Author.Tests.{eqb-true, eqb-false, eq-eqb, ne-eqb, ltb-true, ltb-false, not-false}
+use borrow.Author.Tests.{eqb-true, eqb-false, eq-eqb, ne-eqb, ltb-true, ltb-false}
 use Rattle.model.specs.Lists.{if_then_else_, any, count}
-use Rattle.model.specs.Table.{Member, Table, ids}
+use Rattle.model.specs.Table.{Member, Table, spaceOf, ids}
 use Rattle.model.specs.Ring.{live, named, skips, principal, hasLive, candidateInside}
-use Rattle.model.specs.Steps.{withMembers, inserted, replaced, removed, without}
-use Rattle.model.specs.Refusals.{cutsOff, tooFewPrincipals}
+use Rattle.model.specs.Steps.{withMembers, inserted, replaced}
 use Rattle.laws.specs.Lists.{In, here, there, in-cons, in-nil, live-in, in-live, count-le, every-in, in-every, any-in, in-any, Rising, Above}
-use Rattle.laws.specs.Tables.{FormedMember, Formed, Sound}
-use Rattle.laws.specs.Removed.{removed-from}
+use Rattle.laws.specs.Tables.{FormedMember, Formed, Sound, members-formed}
 
 -- what every step keeps
-pub record Kept (w : ℕ) (T : Table) : Type 0 where
-  pub formed : Formed w T
+pub record Kept (T : Table) : Type 0 where
+  pub formed : Formed T
   pub is-sound : Sound T
 
 -- a record that may come into the table T: its extended list skips no principal
-pub record Fresh (w : ℕ) (T : Table) (v : Member) : Type 0 where
-  pub formed : FormedMember w (T .r) v
+pub record Fresh (T : Table) (v : Member) : Type 0 where
+  pub formed : FormedMember (spaceOf T) (T .r) v
   pub live-entry : hasLive (T .members) v ≡ true
   pub candidate-inside : candidateInside v ≡ true
   pub spares : (q : ℕ) → In q (ids (T .members)) → principal (T .members) q ≡ true → skips q (v .id) (v .successors) ≡ false
@@ -40,18 +38,18 @@ live-stays : (ms ns : List Member) (l : List ℕ) → ((x : ℕ) → In x (ids m
 live-stays ms ns l sub h = let w = any-in (live ms) l h in in-any (live ns) (w .1) (in-live ns (sub (w .0) (live-in ms (w .0) (w .2))))
 
 -- the principals stay principals, for neither the old lists nor the fresh one skip them
-pub changed-principal : (w : ℕ) (T : Table) (v : Member) (ns : List Member) → Fresh w T v → Changed (T .members) v ns → (q : ℕ) → In q (ids (T .members)) → principal (T .members) q ≡ true → principal ns q ≡ true
-changed-principal w T v ns f c q k h = in-every (λ m. not (skips q (m .id) (m .successors))) ns (λ m i. spared m (c .from m i))
+pub changed-principal : (T : Table) (v : Member) (ns : List Member) → Fresh T v → Changed (T .members) v ns → (q : ℕ) → In q (ids (T .members)) → principal (T .members) q ≡ true → principal ns q ≡ true
+changed-principal T v ns f c q k h = in-every (λ m. not (skips q (m .id) (m .successors))) ns (λ m i. spared m (c .from m i))
   where
     spared : (m : Member) → (m ≡ v) ⊎ In m (T .members) → not (skips q (m .id) (m .successors)) ≡ true
     spared m (inl e) = rw e (ap not (f .spares q k h))
     spared m (inr i) = every-in (λ m. not (skips q (m .id) (m .successors))) h i
 
 -- so, the one lemma: the table stays sound
-pub changed-sound : (w : ℕ) (T : Table) (v : Member) (ns : List Member) → Sound T → Fresh w T v → Changed (T .members) v ns → Sound (withMembers ns T)
-changed-sound w T v ns s f c = record {
+pub changed-sound : (T : Table) (v : Member) (ns : List Member) → Sound T → Fresh T v → Changed (T .members) v ns → Sound (withMembers ns T)
+changed-sound T v ns s f c = record {
   live-entry = λ m i. lively m (c .from m i);
-  enough = omega (arith, s .enough, c .counts (principal ns), count-le (principal (T .members)) (principal ns) (ids (T .members)) (changed-principal w T v ns f c));
+  enough = omega (arith, s .enough, c .counts (principal ns), count-le (principal (T .members)) (principal ns) (ids (T .members)) (changed-principal T v ns f c));
   candidate-inside = λ m i. inside m (c .from m i);
 }
   where
@@ -63,17 +61,10 @@ changed-sound w T v ns s f c = record {
     inside m (inl e) = rw e (f .candidate-inside)
     inside m (inr i) = s .candidate-inside m i
 
-pub changed-formed : (w : ℕ) (T : Table) (v : Member) (ns : List Member) → Formed w T → FormedMember w (T .r) v → Changed (T .members) v ns → length ns ≤ 256 → Rising (ids ns) → Formed w (withMembers ns T)
-changed-formed w T v ns t f c few rise = record {
-  r-low = t .r-low;
-  r-high = t .r-high;
-  count-high = few;
-  steps-small = t .steps-small;
-  ids-rising = rise;
-  each = λ m i. go m (c .from m i);
-}
+pub changed-formed : (T : Table) (v : Member) (ns : List Member) → Formed T → FormedMember (spaceOf T) (T .r) v → Changed (T .members) v ns → length ns ≤ 256 → Rising (ids ns) → Formed (withMembers ns T)
+changed-formed T v ns t f c few rise = members-formed t ns few rise (λ m i. go m (c .from m i))
   where
-    go : (m : Member) → (m ≡ v) ⊎ In m (T .members) → FormedMember w (T .r) m
+    go : (m : Member) → (m ≡ v) ⊎ In m (T .members) → FormedMember (spaceOf T) (T .r) m
     go m (inl e) = rw e f
     go m (inr i) = t .each m i
 
@@ -193,12 +184,3 @@ inserted-rising v (m ∷ ms) a n = go (ltb (v .id) (m .id)) refl
     go : (b : Bool) → ltb (v .id) (m .id) ≡ b → Rising (ids (if b then v ∷ m ∷ ms else m ∷ inserted v ms))
     go true e = (ltb-true (v .id) (m .id) e, a)
     go false e = let ne : v .id ≡ m .id → ⊥ = λ q. n (here q) in inserted-above (m .id) v ms (omega (arith, ltb-false (v .id) (m .id) e)) a (λ i. n (there i))
-
--- 6 and 7 do not decline it
-pub removed-sound : (n : ℕ) (T : Table) → Sound T → cutsOff (without n T) ≡ false → tooFewPrincipals (without n T) ≡ false → Sound (without n T)
-unfolding cutsOff tooFewPrincipals
-removed-sound n T s six seven = record {
-  live-entry = λ m i. every-in (hasLive (removed n (T .members))) (not-false _ six) i;
-  enough = ltb-false _ _ seven;
-  candidate-inside = λ m i. s .candidate-inside m (removed-from n m (T .members) i);
-}

@@ -1,24 +1,25 @@
 -- The table that an accepted call leaves in a slice, sound or not: each list keeps its r entries, so what was written is read.
-use mathlib.Core.Path.{_≡_, refl, ap, _∙_}
+use mathlib.Core.Path.{_≡_, ap, _∙_}
 use mathlib.Core.Logic.{_⊎_, inl, inr}
-use mathlib.Core.Bool.{Bool, true, false}
+use mathlib.Core.Bool.{true}
 use mathlib.Core.List.{List}
 use Prim.Native.Nat.{ℕ, _≤_}
 use native.Mathlib.Omega.{arith}
 use lib.ListN.{length}
-use Rattle.model.specs.Lists.{if_then_else_, lastOf}
-use Rattle.model.specs.Identifier.{space, after}
-use Rattle.model.specs.Table.{Member, tableOf, membersIn, wellFormed}
-use Rattle.model.specs.Ring.{live, named, successor, isPending}
-use Rattle.model.specs.Steps.{joiner, joined, dropHead, adopt, awaitCandidate, clearPending, offered, isBetter, stabilizeFromSuccessor, stabilizeFromPredecessor, stabilize, stabilized, rectifyIn, rectified, without}
+use Rattle.model.specs.Lists.{lastOf}
+use Rattle.model.specs.Identifier.{after}
+use Rattle.model.specs.Table.{Member, spaceOf, tableOf, membersIn, wellFormed}
+use Rattle.model.specs.Ring.{live, named, successor}
+use Rattle.model.specs.Steps.{joiner, joined, adopt, stabilize, stabilized, rectifyIn, rectified, isNamed, without}
 use Rattle.model.specs.Refusals.{joinRefusal, memberRefusal, leaveRefusal}
 use Rattle.model.specs.Calls.{written, writtenFreed, stabilizeWords, failWords, leaveWords}
 use Rattle.laws.specs.Lists.{In, found, live-in}
 use Rattle.laws.specs.Accepted.{join-accepted, member-table, member-accepted, leave-accepted}
+use Rattle.laws.specs.Stabilize.{Way, takes, clears, drops, looks, settles, way-of}
 use Rattle.laws.specs.Rectify.{rectify-same}
 use Rattle.laws.specs.Words.{Lengths, written-table, writtenFreed-table}
 use Rattle.laws.specs.Tables.{wellFormed-facts, formed-lists}
-use Rattle.laws.specs.Removed.{removed-from}
+use Rattle.laws.specs.Removed.{staying-from}
 use Rattle.theory.specs.Keep.{Changed, replaced-changed, inserted-changed}
 use Rattle.theory.specs.Steps.{adopted-length, dropped-length}
 
@@ -39,18 +40,14 @@ module _ (r : ℕ) (ms : List Member) (lists : Lengths r ms) (low : 1 ≤ r) whe
   adopted x m l = adopted-length x (named ms x .successors) (omega (arith, listed x l)) ∙ listed x l
 
   stabilize-list : (w : ℕ) (m : Member) → In m ms → length (stabilize w ms m .successors) ≡ r
-  unfolding stabilize stabilizeFromSuccessor stabilizeFromPredecessor
-  stabilize-list w m i = go (isPending m) (live ms (m .candidate)) refl (live ms (successor m)) refl (isBetter ms m)
+  stabilize-list w m i = go (way-of w ms m)
     where
-      go : (a b : Bool) → live ms (m .candidate) ≡ b → (c : Bool) → live ms (successor m) ≡ c → (d : Bool) →
-          length ((if a then clearPending (if b then adopt (m .candidate) (named ms (m .candidate) .successors) m else m)
-          else if c then (if d then awaitCandidate (offered ms m) (adopt (successor m) (named ms (successor m) .successors) m) else adopt (successor m) (named ms (successor m) .successors) m)
-          else dropHead w m) .successors) ≡ r
-      go true true eb c ec d = adopted (m .candidate) m eb
-      go true false eb c ec d = lists m i
-      go false b eb true ec true = adopted (successor m) m ec
-      go false b eb true ec false = adopted (successor m) m ec
-      go false b eb false ec d = dropped-length (after w (lastOf (m .successors))) (m .successors) (omega (arith, lists m i)) ∙ lists m i
+      go : {l : List ℕ} {u : Member} → Way w ms m l u → length (u .successors) ≡ r
+      go (takes p l) = adopted (m .candidate) m l
+      go (clears p l) = lists m i
+      go (drops p l) = dropped-length (after w (lastOf (m .successors))) (m .successors) (omega (arith, lists m i)) ∙ lists m i
+      go (looks p l b) = adopted (successor m) m l
+      go (settles p l b) = adopted (successor m) m l
 
   rectify-list : (q : ℕ) (m : Member) → In m ms → length (rectifyIn ms q m .successors) ≡ r
   rectify-list q m i = ap length (rectify-same ms q m .list) ∙ lists m i
@@ -59,7 +56,7 @@ module _ (ws : List ℕ) where
   -- lists of a well-formed table
 
   lists-in : wellFormed ws ≡ true → Lengths (tableOf ws .r) (membersIn ws)
-  lists-in h = formed-lists space (tableOf ws) (wellFormed-facts ws h .table)
+  lists-in h = formed-lists (tableOf ws) (wellFormed-facts ws h .table)
 
   low-in : wellFormed ws ≡ true → 1 ≤ tableOf ws .r
   low-in h = wellFormed-facts ws h .table .r-low
@@ -69,8 +66,8 @@ module _ (ws : List ℕ) where
   pub joiner-listed : (j p : ℕ) → joinRefusal ws j p ≡ 0 → length (joiner (membersIn ws) j p .successors) ≡ tableOf ws .r
   joiner-listed j p e = let a = join-accepted ws j p e in listed (tableOf ws .r) (membersIn ws) (lists-in (a .table)) (low-in (a .table)) p (a .by)
 
-  pub stabilize-listed : (n : ℕ) → memberRefusal ws n ≡ 0 → length (stabilize space (membersIn ws) (named (membersIn ws) n) .successors) ≡ tableOf ws .r
-  stabilize-listed n e = let h = member-table ws n e in stabilize-list (tableOf ws .r) (membersIn ws) (lists-in h) (low-in h) space (named (membersIn ws) n) (found (membersIn ws) (live-in (membersIn ws) n (member-accepted ws n e)) .0)
+  pub stabilize-listed : (n : ℕ) → memberRefusal ws n ≡ 0 → length (stabilize (spaceOf (tableOf ws)) (membersIn ws) (named (membersIn ws) n) .successors) ≡ tableOf ws .r
+  stabilize-listed n e = let h = member-table ws n e in stabilize-list (tableOf ws .r) (membersIn ws) (lists-in h) (low-in h) (spaceOf (tableOf ws)) (named (membersIn ws) n) (found (membersIn ws) (live-in (membersIn ws) n (member-accepted ws n e)) .0)
 
   pub rectify-listed : (n q : ℕ) → memberRefusal ws n ≡ 0 → length (rectifyIn (membersIn ws) q (named (membersIn ws) n) .successors) ≡ tableOf ws .r
   rectify-listed n q e = let h = member-table ws n e in rectify-list (tableOf ws .r) (membersIn ws) (lists-in h) (low-in h) q (named (membersIn ws) n) (found (membersIn ws) (live-in (membersIn ws) n (member-accepted ws n e)) .0)
@@ -82,10 +79,10 @@ module _ (ws : List ℕ) where
       let v = joiner (membersIn ws) j p in
       written-table (joined j p (tableOf ws)) ws (changed-lists (tableOf ws .r) (membersIn ws) _ v (lists-in (join-accepted ws j p e .table)) (joiner-listed j p e) (inserted-changed v (membersIn ws)))
 
-  pub stabilized-read : (n : ℕ) → memberRefusal ws n ≡ 0 → tableOf (written (stabilized space n (tableOf ws)) ws) ≡ stabilized space n (tableOf ws)
+  pub stabilized-read : (n : ℕ) → memberRefusal ws n ≡ 0 → tableOf (written (stabilized n (tableOf ws)) ws) ≡ stabilized n (tableOf ws)
   stabilized-read n e =
-      let v = stabilize space (membersIn ws) (named (membersIn ws) n) in
-      written-table (stabilized space n (tableOf ws)) ws (changed-lists (tableOf ws .r) (membersIn ws) _ v (lists-in (member-table ws n e)) (stabilize-listed n e) (replaced-changed v (membersIn ws)))
+      let v = stabilize (spaceOf (tableOf ws)) (membersIn ws) (named (membersIn ws) n) in
+      written-table (stabilized n (tableOf ws)) ws (changed-lists (tableOf ws .r) (membersIn ws) _ v (lists-in (member-table ws n e)) (stabilize-listed n e) (replaced-changed v (membersIn ws)))
 
   pub rectified-read : (n q : ℕ) → memberRefusal ws n ≡ 0 → tableOf (written (rectified n q (tableOf ws)) ws) ≡ rectified n q (tableOf ws)
   rectified-read n q e =
@@ -93,13 +90,13 @@ module _ (ws : List ℕ) where
       written-table (rectified n q (tableOf ws)) ws (changed-lists (tableOf ws .r) (membersIn ws) _ v (lists-in (member-table ws n e)) (rectify-listed n q e) (replaced-changed v (membersIn ws)))
 
   -- the table after an accepted stabilize step
-  pub stabilize-table : (n : ℕ) → memberRefusal ws n ≡ 0 → tableOf (stabilizeWords ws n) ≡ stabilized space n (tableOf ws)
+  pub stabilize-table : (n : ℕ) → memberRefusal ws n ≡ 0 → tableOf (stabilizeWords ws n) ≡ stabilized n (tableOf ws)
   unfolding stabilizeWords
   stabilize-table n e = rw e (stabilized-read n e)
 
   -- the table without a member, after its accepted loss and after its accepted withdrawal
-  without-read : (n : ℕ) → wellFormed ws ≡ true → tableOf (writtenFreed (without n (tableOf ws)) ws) ≡ without n (tableOf ws)
-  without-read n h = writtenFreed-table (without n (tableOf ws)) ws (λ m i. lists-in h m (removed-from n m (membersIn ws) i))
+  pub without-read : (n : ℕ) → wellFormed ws ≡ true → tableOf (writtenFreed (without n (tableOf ws)) ws) ≡ without n (tableOf ws)
+  without-read n h = writtenFreed-table (without n (tableOf ws)) ws (λ m i. lists-in h m (staying-from (isNamed n) m (membersIn ws) i))
 
   pub lost-table : (n : ℕ) → memberRefusal ws n ≡ 0 → tableOf (failWords ws n) ≡ without n (tableOf ws)
   unfolding failWords

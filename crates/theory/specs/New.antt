@@ -9,8 +9,7 @@ use lib.ListN.{length, getD, length-map}
 use lib.Dec.{ltb}
 use borrow.Author.Tests.{ltb-true, ltb-false, lt-ltb, le-ltb, leb-true, not-false}
 use Rattle.model.specs.Lists.{if_then_else_, every, count, lastOf}
-use Rattle.model.specs.Identifier.{space}
-use Rattle.model.specs.Table.{Member, ids, size, tableOf}
+use Rattle.model.specs.Table.{Member, spaceOf, ids, size, tableOf}
 use Rattle.model.specs.Ring.{live, skips, principal, hasLive, candidateInside, firstAbove, lastBelow, nextUp, nextDown, nextUps, ideal, verdict}
 use Rattle.model.specs.New.{newMember, newTable}
 use Rattle.model.specs.Refusals.{noNewTable, newRefusal}
@@ -18,7 +17,7 @@ use Rattle.model.specs.Calls.{newWords}
 use Rattle.laws.specs.Places.{next-ups-length, first-least, last-most}
 use Rattle.laws.specs.Order.{less?, Outside, below, beyond, rest, outside-false}
 use Rattle.laws.specs.Lists.{and-true, In, here, there, in-cons, in-nil, in-live, every-in, in-every, in-any, count-le, count-all, Above, Rising, above-in, above-rising, rising-true}
-use Rattle.laws.specs.Tables.{Formed, FormedMember, Sound, IdealMember, facts-sound, facts-ideal, formed-lists}
+use Rattle.laws.specs.Tables.{Formed, FormedMember, idle-formed, table-formed, Sound, IdealMember, facts-sound, facts-ideal, formed-lists}
 use Rattle.laws.specs.Words.{written-table}
 use Rattle.laws.specs.Extended.{head-in, last-in}
 use Rattle.laws.specs.Accepted.{none-applies}
@@ -134,26 +133,11 @@ module _ (r : ℕ) (xs : List ℕ) (ok : Acceptable r xs) where
   some : 1 ≤ length xs
   some = omega (arith, ok .enough)
 
-  pub new-formed : (w : ℕ) → ((x : ℕ) → In x xs → x < w) → Formed w (newTable r xs)
-  new-formed w small = record {
-    r-low = ok .r-low;
-    r-high = ok .r-high;
-    count-high = rw (length-map xs (newMember r xs)) (ok .few);
-    steps-small = omega arith;
-    ids-rising = rw (map-ids r xs xs) (ok .is-rising);
-    each = each-new (FormedMember w r) r xs one;
-  }
+  pub new-formed : ((x : ℕ) → In x xs → x < spaceOf (newTable r xs)) → Formed (newTable r xs)
+  new-formed small = table-formed r (map (newMember r xs) xs) (ok .r-low) (ok .r-high) (rw (length-map xs (newMember r xs)) (ok .few)) (rw (map-ids r xs xs) (ok .is-rising)) (each-new (FormedMember (spaceOf (newTable r xs)) r) r xs one)
     where
-      one : (x : ℕ) → In x xs → FormedMember w r (newMember r xs x)
-      one x i = record {
-        pending-bit = omega arith;
-        no-candidate = λ q. refl;
-        list-length = next-ups-length r xs x;
-        id-small = small x i;
-        predecessor-small = small (nextDown xs x) (down-in xs some x);
-        candidate-small = omega (arith, small x i);
-        entries-small = λ e j. small e (ups-in xs some r x e j);
-      }
+      one : (x : ℕ) → In x xs → FormedMember (spaceOf (newTable r xs)) r (newMember r xs x)
+      one x i = idle-formed (spaceOf (newTable r xs)) r x (nextDown xs x) (nextUps r xs x) (small x i) (small (nextDown xs x) (down-in xs some x)) (next-ups-length r xs x) (λ e j. small e (ups-in xs some r x e j))
 
   -- every member is a principal
   all-principal : (q : ℕ) → In q xs → principal (newTable r xs .members) q ≡ true
@@ -179,14 +163,14 @@ module _ (r : ℕ) (xs : List ℕ) (ok : Acceptable r xs) where
   })
 
 -- an accepted new: the slice is well-formed and sound, and the verdict on it is 2
-pub new-good : (ws : List ℕ) (r : ℕ) (xs : List ℕ) → every (λ x. ltb x space) xs ≡ true → newRefusal (length ws) r xs ≡ 0 → Good (newWords ws r xs) × (verdict (tableOf (newWords ws r xs)) ≡ 2)
+pub new-good : (ws : List ℕ) (r : ℕ) (xs : List ℕ) → every (λ x. ltb x (spaceOf (newTable r xs))) xs ≡ true → newRefusal (length ws) r xs ≡ 0 → Good (newWords ws r xs) × (verdict (tableOf (newWords ws r xs)) ≡ 2)
 unfolding newRefusal newWords verdict
 new-good ws r xs h e =
     let a = none-applies 10 (noNewTable r xs) _ e in
     let b = none-applies 9 (ltb (length ws) (size (newTable r xs))) 0 (a .1) in
     let ok = acceptable r xs (a .0) in
-    let f = new-formed r xs ok space (λ x i. ltb-true x space (every-in (λ x. ltb x space) h i)) in
+    let f = new-formed r xs ok (λ x i. ltb-true x (spaceOf (newTable r xs)) (every-in (λ x. ltb x (spaceOf (newTable r xs))) h i)) in
     let s = new-sound r xs ok in
     let good = written-good (newTable r xs) ws (record { formed = f; is-sound = s }) (ltb-false (length ws) (size (newTable r xs)) (b .0)) in
-    let same = written-table (newTable r xs) ws (formed-lists space (newTable r xs) f) in
+    let same = written-table (newTable r xs) ws (formed-lists (newTable r xs) f) in
     rw e (good, ap verdict same ∙ rw (facts-sound (newTable r xs) s, new-ideal r xs ok))

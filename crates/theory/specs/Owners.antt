@@ -5,7 +5,7 @@ use mathlib.Core.Bool.{true}
 use mathlib.Core.List.{List, [], _∷_}
 use Prim.Native.Nat.{ℕ, zero, suc}
 use native.Mathlib.Omega.{arith}
-use Rattle.model.specs.Identifier.{between, space}
+use Rattle.model.specs.Identifier.{between}
 use Rattle.model.specs.Table.{tableOf, membersIn, ids, wellFormed}
 use Rattle.model.specs.Ring.{live, onRing, sound}
 use Rattle.model.specs.Answer.{accepted}
@@ -66,7 +66,7 @@ one-end q b p c k u v o r = go (placed k b c)
     go (later f) = absurd (none-before q k b c u o f)
 
 module _ (ws : List ℕ) (wf : wellFormed ws ≡ true) (s : sound (tableOf ws) ≡ true) where
-  fo : Formed space (tableOf ws)
+  fo : Formed (tableOf ws)
   fo = wellFormed-facts ws wf .table
 
   so : Sound (tableOf ws)
@@ -78,12 +78,12 @@ module _ (ws : List ℕ) (wf : wellFormed ws ≡ true) (s : sound (tableOf ws) �
     where
       go : Answered (membersIn ws) n k (lookupAnswer ws n k) → Owned (membersIn ws) n k (lookupAnswer ws n k)
       go (inl o) = o
-      go (inr c) = let q : _≡_ {A = ℕ} 0 1 = cc (c .no-move, best-is space (tableOf ws) fo so (live-in (membersIn ws) (c .q) (c .place-live))) in absurd (omega arith)
+      go (inr c) = let q : _≡_ {A = ℕ} 0 1 = cc (c .no-move, best-is (tableOf ws) fo so (live-in (membersIn ws) (c .q) (c .place-live))) in absurd (omega arith)
 
   -- moves from a ring member stay on the ring
   stays : (i x : ℕ) → In x (ids (membersIn ws)) → onRing (membersIn ws) x ≡ true → onRing (membersIn ws) (iterate (best (membersIn ws)) i x) ≡ true
   stays zero x j o = o
-  stays (suc i) x j o = stays i (best (membersIn ws) x) (closed space (tableOf ws) fo so x j) (best-onRing space (tableOf ws) fo so x j o)
+  stays (suc i) x j o = stays i (best (membersIn ws) x) (closed (tableOf ws) fo so x j) (best-onRing (tableOf ws) fo so x j o)
 
   -- where a find from a ring member ends: a ring member, its move, and the key's owner
   record Ended (k b : ℕ) : Type 0 where
@@ -97,16 +97,16 @@ module _ (ws : List ℕ) (wf : wellFormed ws ≡ true) (s : sound (tableOf ws) �
   ended n k l on o =
       let i = live-in (membersIn ws) n l in
       let j = live-in (membersIn ws) (o .q) (o .place-live) in
-      let e : iterate (best (membersIn ws)) (o .moves) n ≡ o .q = cc (moved-iterate space (tableOf ws) fo so (o .moves) n i, o .leads) in
-      let t : best (membersIn ws) (o .q) ≡ o .b = cc (best-is space (tableOf ws) fo so j, o .move) in
+      let e : iterate (best (membersIn ws)) (o .moves) n ≡ o .q = cc (moved-iterate (tableOf ws) fo so (o .moves) n i, o .leads) in
+      let t : best (membersIn ws) (o .q) ≡ o .b = cc (best-is (tableOf ws) fo so j, o .move) in
       record { q = o .q; member = j; on = rw e at (stays (o .moves) n i on); to = t; owns = o .owns }
 
   end-on : {k b : ℕ} → Ended k b → onRing (membersIn ws) b ≡ true
-  end-on e = rw (e .to) at (best-onRing space (tableOf ws) fo so (e .q) (e .member) (e .on))
+  end-on e = rw (e .to) at (best-onRing (tableOf ws) fo so (e .q) (e .member) (e .on))
 
   -- its move passes no ring member
   clear : {k b : ℕ} → (e : Ended k b) (z : ℕ) → live (membersIn ws) z ≡ true → onRing (membersIn ws) z ≡ true → Outside (e .q) z b
-  clear e z l o = rw (e .to) at (ring-clear space (tableOf ws) fo so (e .q) z (e .member) (e .on) (live-in (membersIn ws) z l) o)
+  clear e z l o = rw (e .to) at (ring-clear (tableOf ws) fo so (e .q) z (e .member) (e .on) (live-in (membersIn ws) z l) o)
 
   -- all ring members give one owner
   pub one-owner : (n m k : ℕ) → live (membersIn ws) n ≡ true → onRing (membersIn ws) n ≡ true → live (membersIn ws) m ≡ true → onRing (membersIn ws) m ≡ true → OneOwner ws n m k

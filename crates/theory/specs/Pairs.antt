@@ -9,7 +9,6 @@ use native.Mathlib.Omega.{arith}
 use borrow.Author.Tests.{not-true, not-false}
 use lib.ListN.{length, length-append}
 use Rattle.model.specs.Lists.{any, bit}
-use Rattle.model.specs.Identifier.{space}
 use Rattle.model.specs.Table.{Member, tableOf, membersIn, wellFormed}
 use Rattle.model.specs.Ring.{live, principal}
 use Rattle.model.specs.Answer.{accepted}
@@ -91,7 +90,7 @@ module _ (ws : List ℕ) (n : ℕ) (f : wellFormed ws ≡ true) where
 
   -- members × r
   all-pairs : length (pairs ms) ≡ length ms * tableOf ws .r
-  all-pairs = table-pairs (tableOf ws .r) ms (formed-lists space (tableOf ws) (wellFormed-facts ws f .table))
+  all-pairs = table-pairs (tableOf ws .r) ms (formed-lists (tableOf ws) (wellFormed-facts ws f .table))
 
   to-the-end : ToTheEnd ws n → pairsTaken ws n ≡ length ms * tableOf ws .r
   to-the-end (inl p) = ap length (taken-whole n (pairs ms) (not-true _ (no-pair n ms ∙ p))) ∙ all-pairs

@@ -1,8 +1,8 @@
 -- Document 02, Req 06, on every table: the entries that a search passes over are dead, and the next one is the best successor; find's other values are
 -- what they were before the request; on an ideal table nothing is passed over.
-use Prim.Native.Nat.{ℕ, zero, suc, _+_, _≤_, _<_}
+use Prim.Native.Nat.{ℕ, zero, suc, _+_, _<_}
 use mathlib.Core.Path.{_≡_, refl, sym, ap, _∙_}
-use mathlib.Core.Logic.{_⊎_, inl, inr}
+use mathlib.Core.Logic.{inl, inr}
 use mathlib.Core.Bool.{Bool, true, false, _||_}
 use mathlib.Core.List.{List, [], _∷_, map}
 use mathlib.Core.Option.{Option, some, none}
@@ -10,7 +10,7 @@ use native.Mathlib.Omega.{arith}
 use lib.Dec.{eqb}
 use lib.ListN.{length, getD, take}
 use Rattle.model.specs.Lists.{if_then_else_, option, sum}
-use Rattle.model.specs.Identifier.{between, space}
+use Rattle.model.specs.Identifier.{between}
 use Rattle.model.specs.Table.{Member, Table, tableOf, membersIn, ids, wellFormed}
 use Rattle.model.specs.Ring.{live, named, successor, Search, past, searched, firstLive, bestSuccessor, passedBy, passedByAll, principal, sound, ideal, verdict}
 use Rattle.model.specs.Answer.{Answer, accepted, answer}
@@ -124,9 +124,9 @@ nothing-added ms (m ∷ ns) f = omega (arith, f m (here refl), nothing-added ms 
 
 -- no member passes anything over
 pub ideal-passes-none : (ws : List ℕ) → wellFormed ws ≡ true → ideal (tableOf ws) ≡ true → passedByAll (membersIn ws) ≡ 0
-ideal-passes-none ws wf h = nothing-added (membersIn ws) (membersIn ws) (λ m i. ap (λ (s : Search). s .passed) (ideal-found space (tableOf ws) (wellFormed-facts ws wf .table) h i))
+ideal-passes-none ws wf h = nothing-added (membersIn ws) (membersIn ws) (λ m i. ap (λ (s : Search). s .passed) (ideal-found (tableOf ws) (wellFormed-facts ws wf .table) h i))
 
-no-rounds : (limit : ℕ) (T : Table) → verdict T ≡ 2 → roundsRun space limit T ≡ 0
+no-rounds : (limit : ℕ) (T : Table) → verdict T ≡ 2 → roundsRun limit T ≡ 0
 no-rounds zero T e = refl
 no-rounds (suc limit) T e = rw e
 
@@ -140,7 +140,7 @@ module _ (ws : List ℕ) (wf : wellFormed ws ≡ true) (h : ideal (tableOf ws) �
   ms = membersIn ws
 
   none-at : (q : ℕ) → In q (ids ms) → passedBy ms (named ms q) ≡ 0
-  none-at q i = ap (λ (s : Search). s .passed) (ideal-found space (tableOf ws) (wellFormed-facts ws wf .table) h (found ms i .0))
+  none-at q i = ap (λ (s : Search). s .passed) (ideal-found (tableOf ws) (wellFormed-facts ws wf .table) h (found ms i .0))
 
   none-on : (k q : ℕ) → In q (ids ms) → passedOn ms k q ≡ 0
   none-on zero q i = none-at q i
@@ -165,13 +165,13 @@ module _ (ws : List ℕ) (wf : wellFormed ws ≡ true) (so : sound (tableOf ws) 
   T = tableOf ws
 
   abbrev after : Table
-  after = afterRound space T
+  after = afterRound T
 
   good : Good ws
   good = record { well-formed = wf; is-sound = so }
 
-  calms : AllCalm space (T .r) (ids (T .members)) (principal (T .members)) after
-  calms = calm-round space (T .r) (ids (T .members)) (principal (T .members)) T (record { kept = good-kept ws good; is-r = refl; is-ids = refl; spares = λ q i h. h })
+  calms : AllCalm (T .r) (ids (T .members)) (principal (T .members)) after
+  calms = calm-round (T .r) (ids (T .members)) (principal (T .members)) T (record { kept = good-kept ws good; is-r = refl; is-ids = refl; spares = λ q i h. h })
 
   none-by : (m : Member) → In m (after .members) → passedBy (after .members) m ≡ 0
   none-by m i =

@@ -33,60 +33,60 @@ all-made : (f : ℕ → Member) (ms : List Member) → ((m : Member) → In m ms
 all-made f [] h = refl
 all-made f (m ∷ ms) h = ap (λ (k : Member). k ∷ ms) (h m (here refl)) ∙ ap (λ (l : List Member). f (m .id) ∷ l) (all-made f ms (λ k i. h k (there i)))
 
-module _ (xs : List ℕ) (rise : Rising xs) (some : 1 ≤ length xs) (pr : ℕ → Bool) (w r : ℕ) where
+module _ (xs : List ℕ) (rise : Rising xs) (some : 1 ≤ length xs) (pr : ℕ → Bool) (r : ℕ) where
   abbrev listOf : Table → ℕ → List ℕ
   listOf T x = named (T .members) x .successors
 
   -- of every list the first k entries are right, and the successor in any case
   pub record Right (k : ℕ) (T : Table) : Type 0 where
-    pub all : AllCalm w r xs pr T
+    pub all : AllCalm r xs pr T
     pub first : (x : ℕ) → In x xs → succOf T x ≡ nextUp xs x
     pub lists : (x : ℕ) → In x xs → take k (listOf T x) ≡ nextUps k xs x
 
   module _ (k n : ℕ) (T : Table) (i : In n xs) (v : Right k T) where
-    list-own : listOf (afterTurn w n T) n ≡ nextUp xs n ∷ withoutLast (listOf T (nextUp xs n))
-    list-own = right-turn xs rise pr w r some n T i (v .all) (v .first n i)
+    list-own : listOf (afterTurn n T) n ≡ nextUp xs n ∷ withoutLast (listOf T (nextUp xs n))
+    list-own = right-turn xs rise pr r some n T i (v .all) (v .first n i)
 
-    list-other : (x : ℕ) → (x ≡ n → ⊥) → listOf (afterTurn w n T) x ≡ listOf T x
-    list-other x d = let c = v .all .common in acted-turn w n T (c .kept) (among w r xs pr c i) .others x d .list
+    list-other : (x : ℕ) → (x ≡ n → ⊥) → listOf (afterTurn n T) x ≡ listOf T x
+    list-other x d = let c = v .all .common in acted-turn n T (c .kept) (among r xs pr c i) .others x d .list
 
     long : (x : ℕ) → In x xs → length (listOf T x) ≡ r
     long x j =
         let c = v .all .common in
-        let f = found (T .members) (among w r xs pr c j) in
+        let f = found (T .members) (among r xs pr c j) in
         c .kept .formed .each (named (T .members) x) (f .0) .list-length ∙ c .is-r
 
     -- one entry more than before, of r
-    own : (j : ℕ) → j ≤ k → suc j ≤ r → take (suc j) (listOf (afterTurn w n T) n) ≡ nextUps (suc j) xs n
+    own : (j : ℕ) → j ≤ k → suc j ≤ r → take (suc j) (listOf (afterTurn n T) n) ≡ nextUps (suc j) xs n
     own j h l =
         let z = nextUp xs n in
         let iz = up-in xs some n in
         ap (take (suc j)) list-own ∙ ap (λ (l : List ℕ). z ∷ l)
         (take-take j (length (listOf T z) - 1) (listOf T z) (omega (arith, long z iz)) ∙ sym (take-take j k (listOf T z) h) ∙ ap (take j) (v .lists z iz) ∙ take-ups j k xs z h)
 
-    other : (j x : ℕ) → (x ≡ n → ⊥) → take j (listOf T x) ≡ nextUps j xs x → take j (listOf (afterTurn w n T) x) ≡ nextUps j xs x
+    other : (j x : ℕ) → (x ≡ n → ⊥) → take j (listOf T x) ≡ nextUps j xs x → take j (listOf (afterTurn n T) x) ≡ nextUps j xs x
     other j x d e = ap (take j) (list-other x d) ∙ e
 
-    kept-turn : k ≤ r → Right k (afterTurn w n T)
-    kept-turn le = record { all = all-calm-turn w r xs pr n T i (v .all); first = λ x j. head x j (equal? x n); lists = λ x j. entries k le (λ j h. own j (omega arith)) x j (equal? x n) (v .lists x j) }
+    kept-turn : k ≤ r → Right k (afterTurn n T)
+    kept-turn le = record { all = all-calm-turn r xs pr n T i (v .all); first = λ x j. head x j (equal? x n); lists = λ x j. entries k le (λ j h. own j (omega arith)) x j (equal? x n) (v .lists x j) }
       where
-        head : (x : ℕ) → In x xs → (x ≡ n) ⊎ (x ≡ n → ⊥) → succOf (afterTurn w n T) x ≡ nextUp xs x
+        head : (x : ℕ) → In x xs → (x ≡ n) ⊎ (x ≡ n → ⊥) → succOf (afterTurn n T) x ≡ nextUp xs x
         head x j (inl e) = rw e (ap (λ (l : List ℕ). getD l 0 0) list-own)
         head x j (inr d) = ap (λ (l : List ℕ). getD l 0 0) (list-other x d) ∙ v .first x j
 
-        entries : (k : ℕ) → k ≤ r → ((j : ℕ) → suc j ≤ k → suc j ≤ r → take (suc j) (listOf (afterTurn w n T) n) ≡ nextUps (suc j) xs n) → (x : ℕ) → In x xs → (x ≡ n) ⊎ (x ≡ n → ⊥) → take k (listOf T x) ≡ nextUps k xs x → take k (listOf (afterTurn w n T) x) ≡ nextUps k xs x
+        entries : (k : ℕ) → k ≤ r → ((j : ℕ) → suc j ≤ k → suc j ≤ r → take (suc j) (listOf (afterTurn n T) n) ≡ nextUps (suc j) xs n) → (x : ℕ) → In x xs → (x ≡ n) ⊎ (x ≡ n → ⊥) → take k (listOf T x) ≡ nextUps k xs x → take k (listOf (afterTurn n T) x) ≡ nextUps k xs x
         entries zero le f x j e q = refl
         entries (suc k) le f x j (inl e) q = rw e (f k (omega arith) le)
         entries (suc k) le f x j (inr d) q = other (suc k) x d q
 
   -- a round more, an entry more
-  pub right-round : (k : ℕ) (T : Table) → suc k ≤ r → Right k T → Right (suc k) (afterRound w T)
+  pub right-round : (k : ℕ) (T : Table) → suc k ≤ r → Right k T → Right (suc k) (afterRound T)
   right-round k T le v =
-      let g = round-gives w xs (Right k) (λ x U. take (suc k) (listOf U x) ≡ nextUps (suc k) xs x) (λ n U i u. kept-turn k n U i u (omega arith)) (λ n U i u. own k n U i u k (omega arith) le) (λ n x U i j d u e. other k n U i u (suc k) x d e) T (v .all .common .is-ids) v in
+      let g = round-gives xs (Right k) (λ x U. take (suc k) (listOf U x) ≡ nextUps (suc k) xs x) (λ n U i u. kept-turn k n U i u (omega arith)) (λ n U i u. own k n U i u k (omega arith) le) (λ n x U i j d u e. other k n U i u (suc k) x d e) T (v .all .common .is-ids) v in
       record { all = g .0 .all; first = g .0 .first; lists = g .1 }
 
-  pub rest-round : (T : Table) → Right r T → Right r (afterRound w T)
-  rest-round T v = round-gives w xs (Right r) (λ x U. Unit {0}) (λ n U i u. kept-turn r n U i u (omega arith)) (λ n U i u. tt) (λ n x U i j d u e. tt) T (v .all .common .is-ids) v .0
+  pub rest-round : (T : Table) → Right r T → Right r (afterRound T)
+  rest-round T v = round-gives xs (Right r) (λ x U. Unit {0}) (λ n U i u. kept-turn r n U i u (omega arith)) (λ n U i u. tt) (λ n x U i j d u e. tt) T (v .all .common .is-ids) v .0
 
   -- predecessors are right where successors are, for they are met
   right-predecessor : (k : ℕ) (T : Table) → Right k T → (x : ℕ) → In x xs → predOf T x ≡ nextDown xs x
@@ -109,7 +109,7 @@ module _ (xs : List ℕ) (rise : Rising xs) (some : 1 ≤ length xs) (pr : ℕ �
   pub rest-members : (T : Table) → Right r T → T .members ≡ map (newMember r xs) xs
   rest-members T v = subst (λ (l : List ℕ). T .members ≡ map (newMember r xs) l) (c .is-ids) (all-made (newMember r xs) (T .members) made)
     where
-      c : Common w r xs pr T
+      c : Common r xs pr T
       c = v .all .common
 
       made : (m : Member) → In m (T .members) → m ≡ newMember r xs (m .id)

@@ -63,7 +63,7 @@ next-up x y xs rise i out = go (less? x y)
 abbrev pub best : List Member → ℕ → ℕ
 best ms x = option (bestSuccessor ms x) 0 (λ y. y)
 
-module _ (w : ℕ) (T : Table) (fo : Formed w T) (so : Sound T) where
+module _ (T : Table) (fo : Formed T) (so : Sound T) where
   abbrev ms : List Member
   ms = T .members
 
@@ -157,9 +157,9 @@ holds ws wf s =
     record {
       well-formed = wf;
       is-sound = s;
-      one-ring = λ x h. best-next _ (tableOf ws) fo so x (live-in (membersIn ws) x h);
-      principals-on = λ x h. principal-onRing _ (tableOf ws) fo so x (live-in (membersIn ws) x h);
-      ring-size = omega (arith, count-le (principal (membersIn ws)) (onRing (membersIn ws)) (ids (membersIn ws)) (principal-onRing _ (tableOf ws) fo so));
-      comes-on = λ x h. onto-ring _ (tableOf ws) fo so x (live-in (membersIn ws) x h);
-      in-order = λ x h. lists-in-order _ (tableOf ws) fo so x (live-in (membersIn ws) x h);
+      one-ring = λ x h. best-next (tableOf ws) fo so x (live-in (membersIn ws) x h);
+      principals-on = λ x h. principal-onRing (tableOf ws) fo so x (live-in (membersIn ws) x h);
+      ring-size = omega (arith, count-le (principal (membersIn ws)) (onRing (membersIn ws)) (ids (membersIn ws)) (principal-onRing (tableOf ws) fo so));
+      comes-on = λ x h. onto-ring (tableOf ws) fo so x (live-in (membersIn ws) x h);
+      in-order = λ x h. lists-in-order (tableOf ws) fo so x (live-in (membersIn ws) x h);
     }

@@ -10,16 +10,17 @@ use lib.Dec.{ltb, eqb}
 use borrow.Author.Tests.{ltb-true, not-true}
 use Rattle.model.specs.Lists.{if_then_else_, any, lastOf, withoutLast}
 use Rattle.model.specs.Identifier.{between, after}
-use Rattle.model.specs.Table.{Member, Table, ids, wordLimit}
+use Rattle.model.specs.Table.{Member, Table, spaceOf, ids, wordLimit}
 use Rattle.model.specs.Ring.{live, named, successor, skips, principal, isPending, candidateInside}
-use Rattle.model.specs.Steps.{withMembers, withSteps, withPending, withPredecessor, joiner, inserted, joined, dropHead, adopt, clearPending, offered, isBetter, stabilizeFromSuccessor, stabilizeFromPredecessor, stabilize, nextStep, replaced, stabilized, renews, rectifyIn, rectified, without}
+use Rattle.model.specs.Steps.{withMembers, withSteps, withPending, withPredecessor, joiner, inserted, joined, dropHead, adopt, clearPending, offered, stabilize, nextStep, replaced, stabilized, renews, rectifyIn, rectified, withoutThose}
 use Rattle.model.specs.Refusals.{cutsOff, tooFewPrincipals}
 use Rattle.laws.specs.Order.{true-inside, outside-false, false-outside, inner, inner-from, after-lt, after-outside}
 use Rattle.laws.specs.Lists.{or-false, implied, In, there, in-cons, in-nil, in-left, in-append, length-ids, found, live-in, in-live, every-in, any-in, in-any}
-use Rattle.laws.specs.Tables.{FormedMember}
-use Rattle.laws.specs.Removed.{removed-formed}
+use Rattle.laws.specs.Tables.{FormedMember, idle-formed, list-formed, pending-formed, predecessor-formed, steps-formed}
+use Rattle.laws.specs.Stabilize.{Way, takes, clears, drops, looks, settles, way-of}
+use Rattle.laws.specs.Removed.{staying-formed, staying-sound}
 use Rattle.laws.specs.Extended.{last-in, in-take, skips-take, skips-append, skips-start}
-use Rattle.theory.specs.Keep.{Kept, Fresh, changed-sound, changed-formed, replaced-ids, replaced-changed, inserted-changed, inserted-length, inserted-rising, removed-sound}
+use Rattle.theory.specs.Keep.{Kept, Fresh, changed-sound, changed-formed, replaced-ids, replaced-changed, inserted-changed, inserted-length, inserted-rising}
 
 -- What adopting x makes of its list l: x, and then l without its last entry
 
@@ -63,28 +64,28 @@ nextStep-small s h = go (ltb (suc s) wordLimit) refl
     go false e = h
 
 -- the step count is no part of what makes a table sound
-counted-kept : (w : ℕ) (U : Table) → Kept w U → Kept w (withSteps (nextStep (U .steps)) U)
-counted-kept w U u = record {
-  formed = record { r-low = u .formed .r-low; r-high = u .formed .r-high; count-high = u .formed .count-high; steps-small = nextStep-small (U .steps) (u .formed .steps-small); ids-rising = u .formed .ids-rising; each = u .formed .each };
+counted-kept : (U : Table) → Kept U → Kept (withSteps (nextStep (U .steps)) U)
+counted-kept U u = record {
+  formed = steps-formed (u .formed) _ (nextStep-small (U .steps) (u .formed .steps-small));
   is-sound = record { live-entry = u .is-sound .live-entry; enough = u .is-sound .enough; candidate-inside = u .is-sound .candidate-inside };
 }
 
-module _ (w : ℕ) (T : Table) (k : Kept w T) where
+module _ (T : Table) (k : Kept T) where
   -- what is known of each member
-  right : {m : Member} → In m (T .members) → FormedMember w (T .r) m
+  right : {m : Member} → In m (T .members) → FormedMember (spaceOf T) (T .r) m
   right {m} i = k .formed .each m i
 
   spared : (q : ℕ) {m : Member} → principal (T .members) q ≡ true → In m (T .members) → skips q (m .id) (m .successors) ≡ false
   spared q h i = not-true _ (every-in (λ m. not (skips q (m .id) (m .successors))) h i)
 
-  small : (x : ℕ) → In x (ids (T .members)) → x < w
+  small : (x : ℕ) → In x (ids (T .members)) → x < spaceOf T
   small x i = let f = found (T .members) i in omega (arith, right (f .0) .id-small, f .1)
 
   long : {m : Member} → In m (T .members) → 1 ≤ length (m .successors)
   long i = omega (arith, right i .list-length, k .formed .r-low)
 
   module _ (m : Member) (i : In m (T .members)) where
-    zero-small : 0 < w
+    zero-small : 0 < spaceOf T
     zero-small = omega (arith, right i .id-small)
 
     -- no principal lies between a member and its successor
@@ -92,73 +93,55 @@ module _ (w : ℕ) (T : Table) (k : Kept w T) where
     successor-spares q h = head-spares q (m .id) (m .successors) (long i) (spared q h i)
 
     -- the head is dropped: it is dead, so no principal, and nothing lies between the last entry and the identifier after it
-    drop-fresh : isPending m ≡ false → live (T .members) (successor m) ≡ false → Fresh w T (dropHead w m)
+    drop-fresh : isPending m ≡ false → live (T .members) (successor m) ≡ false → Fresh T (dropHead (spaceOf T) m)
     unfolding candidateInside
     drop-fresh ep el =
         let f = right i in
         let l = m .successors in
-        let z = after w (lastOf l) in
+        let z = after (spaceOf T) (lastOf l) in
         let last = f .entries-small (lastOf l) (last-in l (long i)) in
         record {
-          formed = record {
-            pending-bit = f .pending-bit;
-            no-candidate = f .no-candidate;
-            list-length = dropped-length z l (long i) ∙ f .list-length;
-            id-small = f .id-small;
-            predecessor-small = f .predecessor-small;
-            candidate-small = f .candidate-small;
-            entries-small = λ e j. ⊎-elim (λ q. omega (arith, q, after-lt w (lastOf l) last)) (f .entries-small e) (dropped-in z l j);
-          };
+          formed = list-formed f _ (dropped-length z l (long i) ∙ f .list-length) (λ e j. ⊎-elim (λ q. omega (arith, q, after-lt (spaceOf T) (lastOf l) last)) (f .entries-small e) (dropped-in z l j));
           live-entry = dropped-live (T .members) z l el (k .is-sound .live-entry m i);
           candidate-inside = rw ep;
-          spares = λ q j h. dropped-skips q (m .id) z l (λ e. true≢false (sym (in-live (T .members) j) ∙ rw e el)) (outside-false (after-outside w (lastOf l) q last (small q j))) (long i) (spared q h i);
+          spares = λ q j h. dropped-skips q (m .id) z l (λ e. true≢false (sym (in-live (T .members) j) ∙ rw e el)) (outside-false (after-outside (spaceOf T) (lastOf l) q last (small q j))) (long i) (spared q h i);
         }
 
     -- x is a member, and no principal lies between m and x; b and c are the new pending and candidate
-    adopt-fresh : (x b c : ℕ) → In x (ids (T .members)) → ((q : ℕ) → principal (T .members) q ≡ true → between (m .id) q x ≡ false) → b ≤ 1 → (b ≡ 0 → c ≡ 0) → c < w → (not (eqb b 1) || between (m .id) c x) ≡ true → Fresh w T (withPending b c (adopt x (named (T .members) x .successors) m))
+    adopt-fresh : (x b c : ℕ) → In x (ids (T .members)) → ((q : ℕ) → principal (T .members) q ≡ true → between (m .id) q x ≡ false) → b ≤ 1 → (b ≡ 0 → c ≡ 0) → c < spaceOf T → (not (eqb b 1) || between (m .id) c x) ≡ true → Fresh T (withPending b c (adopt x (named (T .members) x .successors) m))
     unfolding candidateInside
     adopt-fresh x b c j out hb hc sc inside =
-        let f = right i in
         let n = found (T .members) j in
         let l = named (T .members) x .successors in
         record {
-          formed = record {
-            pending-bit = hb;
-            no-candidate = hc;
-            list-length = adopted-length x l (long (n .0)) ∙ right (n .0) .list-length;
-            id-small = f .id-small;
-            predecessor-small = f .predecessor-small;
-            candidate-small = sc;
-            entries-small = λ e p. ⊎-elim (λ q. omega (arith, q, small x j)) (right (n .0) .entries-small e) (adopted-in x l p);
-          };
+          formed = pending-formed (list-formed (right i) _ (adopted-length x l (long (n .0)) ∙ right (n .0) .list-length) (λ e p. ⊎-elim (λ q. omega (arith, q, small x j)) (right (n .0) .entries-small e) (adopted-in x l p))) b c hb hc sc;
           live-entry = rw (in-live (T .members) j);
           candidate-inside = inside;
           spares = λ q p h. rw (out q h) (skips-take q x (length l - 1) l (rw (n .1) at (spared q h (n .0))));
         }
 
     -- the list stays; p, b and c are the new predecessor, pending and candidate
-    same-list-fresh : (p b c : ℕ) → p < w → b ≤ 1 → (b ≡ 0 → c ≡ 0) → c < w → candidateInside (withPending b c m) ≡ true → Fresh w T (withPredecessor p (withPending b c m))
+    same-list-fresh : (p b c : ℕ) → p < spaceOf T → b ≤ 1 → (b ≡ 0 → c ≡ 0) → c < spaceOf T → candidateInside (withPending b c m) ≡ true → Fresh T (withPredecessor p (withPending b c m))
     unfolding candidateInside
     same-list-fresh p b c hp hb hc sc inside =
-        let f = right i in
         record {
-          formed = record { pending-bit = hb; no-candidate = hc; list-length = f .list-length; id-small = f .id-small; predecessor-small = hp; candidate-small = sc; entries-small = f .entries-small };
+          formed = predecessor-formed (pending-formed (right i) b c hb hc sc) p hp;
           live-entry = k .is-sound .live-entry m i;
           candidate-inside = inside;
           spares = λ q j h. spared q h i;
         }
 
-    clear-fresh : Fresh w T (clearPending m)
+    clear-fresh : Fresh T (clearPending m)
     unfolding candidateInside
     clear-fresh = same-list-fresh (m .predecessor) 0 0 (right i .predecessor-small) (omega arith) (λ q. refl) zero-small refl
 
-    pub rectify-fresh : (q : ℕ) → q < w → Fresh w T (rectifyIn (T .members) q m)
+    pub rectify-fresh : (q : ℕ) → q < spaceOf T → Fresh T (rectifyIn (T .members) q m)
     rectify-fresh q hq = go (renews (live (T .members) (m .predecessor)) q m)
       where
-        with-predecessor : (p : ℕ) → p < w → Fresh w T (withPredecessor p m)
+        with-predecessor : (p : ℕ) → p < spaceOf T → Fresh T (withPredecessor p m)
         with-predecessor p h = let f = right i in same-list-fresh p (m .pending) (m .candidate) h (f .pending-bit) (f .no-candidate) (f .candidate-small) (k .is-sound .candidate-inside m i)
 
-        go : (b : Bool) → Fresh w T (if b then withPredecessor q m else m)
+        go : (b : Bool) → Fresh T (if b then withPredecessor q m else m)
         go true = with-predecessor q hq
         go false = with-predecessor (m .predecessor) (right i .predecessor-small)
 
@@ -168,33 +151,28 @@ module _ (w : ℕ) (T : Table) (k : Kept w T) where
     candidate-spares ep q h =
         outside-false (inner (true-inside (m .id) (m .candidate) (successor m) (implied (k .is-sound .candidate-inside m i) ep)) (false-outside (m .id) q (successor m) (successor-spares q h)))
 
-    offered-small : In (successor m) (ids (T .members)) → offered (T .members) m < w
+    offered-small : In (successor m) (ids (T .members)) → offered (T .members) m < spaceOf T
     offered-small j = right (found (T .members) j .0) .predecessor-small
 
-    -- one stabilize step, whichever of its five cases
-    pub stabilize-fresh : Fresh w T (stabilize w (T .members) m)
-    unfolding stabilize stabilizeFromSuccessor stabilizeFromPredecessor
-    stabilize-fresh = go (isPending m) (live (T .members) (successor m)) (isBetter (T .members) m) (live (T .members) (m .candidate)) refl refl refl refl
+    -- one stabilize step, whichever of its five ways
+    pub stabilize-fresh : Fresh T (stabilize (spaceOf T) (T .members) m)
+    stabilize-fresh = go (way-of (spaceOf T) (T .members) m)
       where
-        go : (a b c d : Bool) → isPending m ≡ a → live (T .members) (successor m) ≡ b → isBetter (T .members) m ≡ c → live (T .members) (m .candidate) ≡ d →
-            Fresh w T
-            (if a then clearPending (if d then adopt (m .candidate) (named (T .members) (m .candidate) .successors) m else m)
-            else if b then (if c then withPending 1 (offered (T .members) m) (adopt (successor m) (named (T .members) (successor m) .successors) m) else adopt (successor m) (named (T .members) (successor m) .successors) m)
-            else dropHead w m)
-        go true b c true ea eb ec ed = adopt-fresh (m .candidate) 0 0 (live-in (T .members) (m .candidate) ed) (candidate-spares ea) (omega arith) (λ q. refl) zero-small refl
-        go true b c false ea eb ec ed = clear-fresh
-        go false true true d ea eb ec ed = let j = live-in (T .members) (successor m) eb in adopt-fresh (successor m) 1 (offered (T .members) m) j successor-spares (omega arith) (omega arith) (offered-small j) ec
-        go false true false d ea eb ec ed = adopt-fresh (successor m) (m .pending) (m .candidate) (live-in (T .members) (successor m) eb) successor-spares (right i .pending-bit) (right i .no-candidate) (right i .candidate-small) (rw ea)
-        go false false c d ea eb ec ed = drop-fresh ea eb
+        go : {l : List ℕ} {u : Member} → Way (spaceOf T) (T .members) m l u → Fresh T u
+        go (takes p l) = adopt-fresh (m .candidate) 0 0 (live-in (T .members) (m .candidate) l) (candidate-spares p) (omega arith) (λ q. refl) zero-small refl
+        go (clears p l) = clear-fresh
+        go (drops p l) = drop-fresh p l
+        go (looks p l b) = let j = live-in (T .members) (successor m) l in adopt-fresh (successor m) 1 (offered (T .members) m) j successor-spares (omega arith) (omega arith) (offered-small j) b
+        go (settles p l b) = adopt-fresh (successor m) (m .pending) (m .candidate) (live-in (T .members) (successor m) l) successor-spares (right i .pending-bit) (right i .no-candidate) (right i .candidate-small) (rw p)
 
   -- the joining j lies between p and its first entry, so p's list skips no principal from j on either
-  pub joiner-fresh : (j p : ℕ) → j < w → In p (ids (T .members)) → between p j (successor (named (T .members) p)) ≡ true → Fresh w T (joiner (T .members) j p)
+  pub joiner-fresh : (j p : ℕ) → j < spaceOf T → In p (ids (T .members)) → between p j (successor (named (T .members) p)) ≡ true → Fresh T (joiner (T .members) j p)
   unfolding candidateInside
   joiner-fresh j p hj ip b =
       let n = found (T .members) ip in
       let f = right (n .0) in
       record {
-        formed = record { pending-bit = omega arith; no-candidate = λ q. refl; list-length = f .list-length; id-small = hj; predecessor-small = small p ip; candidate-small = omega arith; entries-small = f .entries-small };
+        formed = idle-formed (spaceOf T) (T .r) j p _ hj (small p ip) (f .list-length) (f .entries-small);
         live-entry = k .is-sound .live-entry (named (T .members) p) (n .0);
         candidate-inside = refl;
         spares = λ q i h. go q (named (T .members) p .successors) (rw (n .1) at (spared q h (n .0))) b;
@@ -206,29 +184,30 @@ module _ (w : ℕ) (T : Table) (k : Kept w T) where
 
   -- The tables after the steps: well-formed and sound with T
 
-  replaced-kept : (v : Member) → Fresh w T v → Kept w (withMembers (replaced v (T .members)) T)
+  replaced-kept : (v : Member) → Fresh T v → Kept (withMembers (replaced v (T .members)) T)
   replaced-kept v f =
       let ns = replaced v (T .members) in
       let c = replaced-changed v (T .members) in
       let few : length ns ≤ 256 = omega (arith, length-ids ns, ap length (replaced-ids v (T .members)), length-ids (T .members), k .formed .count-high) in
-      record { formed = changed-formed w T v ns (k .formed) (f .formed) c few (rw (replaced-ids v (T .members)) (k .formed .ids-rising)); is-sound = changed-sound w T v ns (k .is-sound) f c }
+      record { formed = changed-formed T v ns (k .formed) (f .formed) c few (rw (replaced-ids v (T .members)) (k .formed .ids-rising)); is-sound = changed-sound T v ns (k .is-sound) f c }
 
-  pub joined-kept : (j p : ℕ) → j < w → live (T .members) j ≡ false → live (T .members) p ≡ true → between p j (successor (named (T .members) p)) ≡ true → length (T .members) < 256 → Kept w (joined j p T)
+  pub joined-kept : (j p : ℕ) → j < spaceOf T → live (T .members) j ≡ false → live (T .members) p ≡ true → between p j (successor (named (T .members) p)) ≡ true → length (T .members) < 256 → Kept (joined j p T)
   joined-kept j p hj ej ep b few =
       let v = joiner (T .members) j p in
       let ns = inserted v (T .members) in
       let f = joiner-fresh j p hj (live-in (T .members) p ep) b in
       let c = inserted-changed v (T .members) in
       let rise = inserted-rising v (T .members) (k .formed .ids-rising) (λ i. true≢false (sym (in-live (T .members) i) ∙ ej)) in
-      record { formed = changed-formed w T v ns (k .formed) (f .formed) c (omega (arith, inserted-length v (T .members))) rise; is-sound = changed-sound w T v ns (k .is-sound) f c }
+      record { formed = changed-formed T v ns (k .formed) (f .formed) c (omega (arith, inserted-length v (T .members))) rise; is-sound = changed-sound T v ns (k .is-sound) f c }
 
-  pub rectified-kept : (n q : ℕ) → q < w → live (T .members) n ≡ true → Kept w (rectified n q T)
+  pub rectified-kept : (n q : ℕ) → q < spaceOf T → live (T .members) n ≡ true → Kept (rectified n q T)
   rectified-kept n q hq e = replaced-kept (rectifyIn (T .members) q (named (T .members) n)) (rectify-fresh (named (T .members) n) (found (T .members) (live-in (T .members) n e) .0) q hq)
 
-  pub without-kept : (n : ℕ) → live (T .members) n ≡ true → cutsOff (without n T) ≡ false → tooFewPrincipals (without n T) ≡ false → Kept w (without n T)
-  without-kept n e six seven = record { formed = removed-formed w n T (k .formed) (live-in (T .members) n e); is-sound = removed-sound n T (k .is-sound) six seven }
+  -- without any of its members, where 6 and 7 are not against it
+  pub without-kept : (gone : Member → Bool) → cutsOff (withoutThose gone T) ≡ false → tooFewPrincipals (withoutThose gone T) ≡ false → Kept (withoutThose gone T)
+  without-kept gone six seven = record { formed = staying-formed gone T (k .formed); is-sound = staying-sound gone T (k .is-sound) six seven }
 
-  pub stabilized-kept : (n : ℕ) → live (T .members) n ≡ true → Kept w (stabilized w n T)
+  pub stabilized-kept : (n : ℕ) → live (T .members) n ≡ true → Kept (stabilized n T)
   stabilized-kept n e =
-      let v = stabilize w (T .members) (named (T .members) n) in
-      counted-kept w (withMembers (replaced v (T .members)) T) (replaced-kept v (stabilize-fresh (named (T .members) n) (found (T .members) (live-in (T .members) n e) .0)))
+      let v = stabilize (spaceOf T) (T .members) (named (T .members) n) in
+      counted-kept (withMembers (replaced v (T .members)) T) (replaced-kept v (stabilize-fresh (named (T .members) n) (found (T .members) (live-in (T .members) n e) .0)))

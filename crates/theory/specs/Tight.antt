@@ -4,12 +4,11 @@ use mathlib.Core.Bool.{true}
 use mathlib.Core.List.{List, [], _∷_}
 use Prim.Native.Nat.{ℕ, _-_}
 use lib.ListN.{length}
-use Rattle.model.specs.Identifier.{space, between, after}
-use Rattle.model.specs.Table.{Table, tableOf, membersIn, wordsOf, wellFormed, formed, formedMember}
+use Rattle.model.specs.Identifier.{between, after, space}
+use Rattle.model.specs.Table.{idle, Table, tableWith, tableOf, membersIn, wordsOf, wellFormed, formed, formedMember}
 use Rattle.model.specs.Ring.{sound, candidateInside, ideal, idealMember, verdict}
 use Rattle.model.specs.Steps.{stabilizeFromSuccessor, stabilizeFromPredecessor, stabilize, stabilizeReply, nextStep, renews}
 use Rattle.model.specs.Settle.{delivered, lastStep, finished, afterTurn, afterRound, afterRounds}
-use Rattle.model.specs.Examples.{settledMember, listsOfTwo}
 use Rattle.theory.specs.Bound.{rounds}
 use Rattle.theory.specs.Settled.{after-rounds}
 
@@ -23,30 +22,30 @@ pub record Late (r : ℕ) : Type 0 where
 
 -- four members, of which 10 and 40 are principals
 abbrev pub four : Table
-four = record { r = 1; steps = 0; members = settledMember 10 10 (30 ∷ []) ∷ settledMember 20 10 (40 ∷ []) ∷ settledMember 30 40 (40 ∷ []) ∷ settledMember 40 20 (10 ∷ []) ∷ [] }
+four = tableWith 1 (idle 10 10 (30 ∷ []) ∷ idle 20 10 (40 ∷ []) ∷ idle 30 40 (40 ∷ []) ∷ idle 40 20 (10 ∷ []) ∷ [])
 
 -- five members, of which 10, 20 and 30 are principals
 abbrev pub five : Table
-five = listsOfTwo (settledMember 10 10 (20 ∷ 30 ∷ []) ∷ settledMember 20 40 (30 ∷ 40 ∷ []) ∷ settledMember 30 20 (10 ∷ 20 ∷ []) ∷ settledMember 40 40 (50 ∷ 10 ∷ []) ∷ settledMember 50 40 (10 ∷ 20 ∷ []) ∷ [])
+five = tableWith 2 (idle 10 10 (20 ∷ 30 ∷ []) ∷ idle 20 40 (30 ∷ 40 ∷ []) ∷ idle 30 20 (10 ∷ 20 ∷ []) ∷ idle 40 40 (50 ∷ 10 ∷ []) ∷ idle 50 40 (10 ∷ 20 ∷ []) ∷ [])
 
 -- each is sound, and computed at the table
 right : (T : Table) → Type 0
 right T = (wellFormed (wordsOf T) ≡ true) × (sound (tableOf (wordsOf T)) ≡ true)
 
 four-right : right four
-unfolding right sound candidateInside between wellFormed formed formedMember
+unfolding right sound candidateInside between wellFormed formed formedMember space
 four-right = (refl, refl)
 
 five-right : right five
-unfolding right sound candidateInside between wellFormed formed formedMember
+unfolding right sound candidateInside between wellFormed formed formedMember space
 five-right = (refl, refl)
 
-two-rounds : verdict (afterRounds space 2 four) ≡ 1
-unfolding verdict sound ideal idealMember candidateInside between after stabilize stabilizeFromSuccessor stabilizeFromPredecessor stabilizeReply nextStep renews delivered lastStep finished afterTurn afterRound
+two-rounds : verdict (afterRounds 2 four) ≡ 1
+unfolding verdict sound ideal idealMember candidateInside between after stabilize stabilizeFromSuccessor stabilizeFromPredecessor stabilizeReply nextStep renews delivered lastStep finished afterTurn afterRound space
 two-rounds = refl
 
-three-rounds : verdict (afterRounds space 3 five) ≡ 1
-unfolding verdict sound ideal idealMember candidateInside between after stabilize stabilizeFromSuccessor stabilizeFromPredecessor stabilizeReply nextStep renews delivered lastStep finished afterTurn afterRound
+three-rounds : verdict (afterRounds 3 five) ≡ 1
+unfolding verdict sound ideal idealMember candidateInside between after stabilize stabilizeFromSuccessor stabilizeFromPredecessor stabilizeReply nextStep renews delivered lastStep finished afterTurn afterRound space
 three-rounds = refl
 
 pub late-1 : Late 1

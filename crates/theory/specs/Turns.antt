@@ -10,13 +10,13 @@ use lib.Dec.{eqb}
 use lib.ListN.{length}
 use Rattle.model.specs.Lists.{if_then_else_, contains}
 use Rattle.model.specs.Identifier.{between}
-use Rattle.model.specs.Table.{Member, Table, size, ids}
-use Rattle.model.specs.Ring.{live, named, successor, isPending, principal}
-use Rattle.model.specs.Steps.{withPredecessor, adopt, awaitCandidate, clearPending, dropHead, offered, isBetter, stabilizeFromSuccessor, stabilizeFromPredecessor, stabilize, replaced, stabilized, renews, rectifyIn, rectified}
+use Rattle.model.specs.Table.{Member, Table, spaceOf, size, ids}
+use Rattle.model.specs.Ring.{live, named, isPending, principal}
+use Rattle.model.specs.Steps.{withPredecessor, stabilize, replaced, stabilized, renews, rectifyIn, rectified}
 use Rattle.model.specs.Settle.{delivered, isDone, lastStep, finished, untilDone, afterTurn, afterTurns, afterRound, afterRounds}
 use Rattle.laws.specs.Order.{equal?, Inside, true-inside}
 use Rattle.laws.specs.Lists.{In, here, there, length-ids, found, live-in, in-live}
-use Rattle.laws.specs.Stabilize.{same-id}
+use Rattle.laws.specs.Stabilize.{same-id, same-predecessor}
 use Rattle.laws.specs.Rectify.{rectify-same}
 use Rattle.theory.specs.Keep.{Kept, changed-principal, replaced-ids, replaced-named, replaced-others, replaced-changed}
 use Rattle.theory.specs.Steps.{stabilize-fresh, stabilized-kept, rectify-fresh, rectified-kept}
@@ -33,30 +33,31 @@ pub record SameList (u v : Member) : Type 0 where
   pub is-pending : isPending u ≡ isPending v
 
 -- what turns keep of the table T
-pub record Lasts (w : ℕ) (T T' : Table) : Type 0 where
-  pub kept : Kept w T'
+pub record Lasts (T T' : Table) : Type 0 where
+  pub kept : Kept T'
   pub same-r : T' .r ≡ T .r
+  pub same-space : spaceOf T' ≡ spaceOf T
   pub same-ids : ids (T' .members) ≡ ids (T .members)
   pub principals-stay : (q : ℕ) → In q (ids (T .members)) → principal (T .members) q ≡ true → principal (T' .members) q ≡ true
 
 -- T' is T after steps and notices of n
-pub record Acted (w n : ℕ) (T T' : Table) : Type 0 where
-  pub lasts : Lasts w T T'
+pub record Acted (n : ℕ) (T T' : Table) : Type 0 where
+  pub lasts : Lasts T T'
   pub others : (x : ℕ) → (x ≡ n → ⊥) → SameList (named (T' .members) x) (named (T .members) x)
   pub predecessors : (x : ℕ) → Predecessor (T .members) n x (named (T .members) x .predecessor) (named (T' .members) x .predecessor)
 
-pub lasts-none : (w : ℕ) (T : Table) → Kept w T → Lasts w T T
-lasts-none w T k = record { kept = k; same-r = refl; same-ids = refl; principals-stay = λ q i h. h }
+pub lasts-none : (T : Table) → Kept T → Lasts T T
+lasts-none T k = record { kept = k; same-r = refl; same-space = refl; same-ids = refl; principals-stay = λ q i h. h }
 
-pub lasts-trans : {w : ℕ} {T U X : Table} → Lasts w T U → Lasts w U X → Lasts w T X
-lasts-trans a b = record { kept = b .kept; same-r = b .same-r ∙ a .same-r; same-ids = b .same-ids ∙ a .same-ids; principals-stay = λ q i h. b .principals-stay q (rw (a .same-ids) i) (a .principals-stay q i h) }
+pub lasts-trans : {T U X : Table} → Lasts T U → Lasts U X → Lasts T X
+lasts-trans a b = record { kept = b .kept; same-r = b .same-r ∙ a .same-r; same-space = b .same-space ∙ a .same-space; same-ids = b .same-ids ∙ a .same-ids; principals-stay = λ q i h. b .principals-stay q (rw (a .same-ids) i) (a .principals-stay q i h) }
 
 -- and its size
-pub same-size : {w : ℕ} {T U : Table} → Lasts w T U → size U ≡ size T
-same-size {w} {T} {U} a = let q : length (U .members) ≡ length (T .members) = sym (length-ids (U .members)) ∙ ap length (a .same-ids) ∙ length-ids (T .members) in rw (q, a .same-r)
+pub same-size : {T U : Table} → Lasts T U → size U ≡ size T
+same-size {T} {U} a = let q : length (U .members) ≡ length (T .members) = sym (length-ids (U .members)) ∙ ap length (a .same-ids) ∙ length-ids (T .members) in rw (q, a .same-r)
 
-acted-none : (w n : ℕ) (T : Table) → Kept w T → Acted w n T T
-acted-none w n T k = record { lasts = lasts-none w T k; others = λ x d. record { list = refl; is-pending = refl }; predecessors = λ x. stays refl }
+acted-none : (n : ℕ) (T : Table) → Kept T → Acted n T T
+acted-none n T k = record { lasts = lasts-none T k; others = λ x d. record { list = refl; is-pending = refl }; predecessors = λ x. stays refl }
 
 predecessor-trans : (ms ns : List Member) (n x p q s : ℕ) → ids ns ≡ ids ms → Predecessor ms n x p q → Predecessor ns n x q s → Predecessor ms n x p s
 predecessor-trans ms ns n x p q s e (stays a) (stays b) = stays (b ∙ a)
@@ -69,26 +70,14 @@ predecessor-trans ms ns n x p q s e (nearer a i) (stays b) = nearer (b ∙ a) i
 predecessor-trans ms ns n x p q s e (nearer a i) (dead b c) = nearer b i
 predecessor-trans ms ns n x p q s e (nearer a i) (nearer b j) = nearer b i
 
-acted-trans : {w n : ℕ} {T U X : Table} → Acted w n T U → Acted w n U X → Acted w n T X
-acted-trans {w} {n} {T} {U} {X} a b = record {
+acted-trans : {n : ℕ} {T U X : Table} → Acted n T U → Acted n U X → Acted n T X
+acted-trans {n} {T} {U} {X} a b = record {
   lasts = lasts-trans (a .lasts) (b .lasts);
   others = λ x d. record { list = b .others x d .list ∙ a .others x d .list; is-pending = b .others x d .is-pending ∙ a .others x d .is-pending };
   predecessors = λ x. predecessor-trans (T .members) (U .members) n x _ _ _ (a .lasts .same-ids) (a .predecessors x) (b .predecessors x);
 }
 
 -- What the steps and notices leave of a record
-
--- a step writes no predecessor
-same-predecessor : (w : ℕ) (ms : List Member) (m : Member) → stabilize w ms m .predecessor ≡ m .predecessor
-unfolding stabilize stabilizeFromSuccessor stabilizeFromPredecessor
-same-predecessor w ms m = go (isPending m) (live ms (m .candidate)) (live ms (successor m)) (isBetter ms m)
-  where
-    go : (a b d e : Bool) → (if a then clearPending (if b then adopt (m .candidate) (named ms (m .candidate) .successors) m else m) else if d then (if e then awaitCandidate (offered ms m) (adopt (successor m) (named ms (successor m) .successors) m) else adopt (successor m) (named ms (successor m) .successors) m) else dropHead w m) .predecessor ≡ m .predecessor
-    go true true d e = refl
-    go true false d e = refl
-    go false b true true = refl
-    go false b true false = refl
-    go false b false e = refl
 
 -- a notice writes nothing else, and by its rule
 rectify-list : (ms : List Member) (q : ℕ) (m : Member) → SameList (rectifyIn ms q m) m
@@ -103,8 +92,8 @@ rectify-predecessor ms q x m e = go (between (m .predecessor) q (m .id)) refl (l
     go false ea true eb = stays refl
     go false ea false eb = dead refl eb
 
-module _ (w : ℕ) (T : Table) (k : Kept w T) (n : ℕ) (i : In n (ids (T .members))) where
-  pub small : n < w
+module _ (T : Table) (k : Kept T) (n : ℕ) (i : In n (ids (T .members))) where
+  pub small : n < spaceOf T
   small = let f = found (T .members) i in omega (arith, k .formed .each (named (T .members) n) (f .0) .id-small, f .1)
 
   -- one record in its place
@@ -124,20 +113,20 @@ module _ (w : ℕ) (T : Table) (k : Kept w T) (n : ℕ) (i : In n (ids (T .membe
 
   -- a stabilize step of n
 
-  stepped-id : stabilize w (T .members) (named (T .members) n) .id ≡ n
-  stepped-id = same-id (T .members) (named (T .members) n) w ∙ found (T .members) i .1
+  stepped-id : stabilize (spaceOf T) (T .members) (named (T .members) n) .id ≡ n
+  stepped-id = same-id (T .members) (named (T .members) n) (spaceOf T) ∙ found (T .members) i .1
 
-  pub stepped-named : named (stabilized w n T .members) n ≡ stabilize w (T .members) (named (T .members) n)
-  stepped-named = placed (stabilize w (T .members) (named (T .members) n)) stepped-id
+  pub stepped-named : named (stabilized n T .members) n ≡ stabilize (spaceOf T) (T .members) (named (T .members) n)
+  stepped-named = placed (stabilize (spaceOf T) (T .members) (named (T .members) n)) stepped-id
 
-  pub acted-step : Acted w n T (stabilized w n T)
+  pub acted-step : Acted n T (stabilized n T)
   acted-step =
       let ms = T .members in
-      let v = stabilize w ms (named ms n) in
+      let v = stabilize (spaceOf T) ms (named ms n) in
       record {
-        lasts = record { kept = stabilized-kept w T k n (in-live ms i); same-r = refl; same-ids = replaced-ids v ms; principals-stay = changed-principal w T v (replaced v ms) (stabilize-fresh w T k (named ms n) (found ms i .0)) (replaced-changed v ms) };
+        lasts = record { kept = stabilized-kept T k n (in-live ms i); same-r = refl; same-space = refl; same-ids = replaced-ids v ms; principals-stay = changed-principal T v (replaced v ms) (stabilize-fresh T k (named ms n) (found ms i .0)) (replaced-changed v ms) };
         others = λ x d. rw (elsewhere v stepped-id x d) (record { list = refl; is-pending = refl });
-        predecessors = at-place v stepped-id (λ x m. Predecessor ms n x (named ms x .predecessor) (m .predecessor)) (stays (same-predecessor w ms (named ms n))) (λ x d. stays refl);
+        predecessors = at-place v stepped-id (λ x m. Predecessor ms n x (named ms x .predecessor) (m .predecessor)) (stays (same-predecessor ms (named ms n) (spaceOf T))) (λ x d. stays refl);
       }
 
   -- a notice of q to n
@@ -152,75 +141,75 @@ module _ (w : ℕ) (T : Table) (k : Kept w T) (n : ℕ) (i : In n (ids (T .membe
   pub noticed-list : (q x : ℕ) → SameList (named (rectified n q T .members) x) (named (T .members) x)
   noticed-list q = at-place (rectifyIn (T .members) q (named (T .members) n)) (noticed-id q) (λ x m. SameList m (named (T .members) x)) (rectify-list (T .members) q (named (T .members) n)) (λ x d. record { list = refl; is-pending = refl })
 
-  pub acted-notice : (q : ℕ) → q < w → Acted w q T (rectified n q T)
+  pub acted-notice : (q : ℕ) → q < spaceOf T → Acted q T (rectified n q T)
   acted-notice q hq =
       let ms = T .members in
       let v = rectifyIn ms q (named ms n) in
       record {
-        lasts = record { kept = rectified-kept w T k n q hq (in-live ms i); same-r = refl; same-ids = replaced-ids v ms; principals-stay = changed-principal w T v (replaced v ms) (rectify-fresh w T k (named ms n) (found ms i .0) q hq) (replaced-changed v ms) };
+        lasts = record { kept = rectified-kept T k n q hq (in-live ms i); same-r = refl; same-space = refl; same-ids = replaced-ids v ms; principals-stay = changed-principal T v (replaced v ms) (rectify-fresh T k (named ms n) (found ms i .0) q hq) (replaced-changed v ms) };
         others = λ x d. noticed-list q x;
         predecessors = at-place v (noticed-id q) (λ x m. Predecessor ms q x (named ms x .predecessor) (m .predecessor)) (rectify-predecessor ms q n (named ms n) (found ms i .1)) (λ x d. stays refl);
       }
 
 -- A turn
 
-module _ (w n : ℕ) where
+module _ (n : ℕ) where
   -- a notice delivered, or lost
-  pub acted-delivered : (h : ℕ) (T : Table) → Kept w T → In n (ids (T .members)) → Acted w n T (delivered n h T)
+  pub acted-delivered : (h : ℕ) (T : Table) → Kept T → In n (ids (T .members)) → Acted n T (delivered n h T)
   unfolding delivered
   acted-delivered h T k i = go (live (T .members) h) refl
     where
-      go : (b : Bool) → live (T .members) h ≡ b → Acted w n T (if b then rectified h n T else T)
-      go true e = acted-notice w T k h (live-in (T .members) h e) n (small w T k n i)
-      go false e = acted-none w n T k
+      go : (b : Bool) → live (T .members) h ≡ b → Acted n T (if b then rectified h n T else T)
+      go true e = acted-notice T k h (live-in (T .members) h e) n (small T k n i)
+      go false e = acted-none n T k
 
   -- it changes no list
-  pub delivered-list : (h : ℕ) (T : Table) → Kept w T → (x : ℕ) → SameList (named (delivered n h T .members) x) (named (T .members) x)
+  pub delivered-list : (h : ℕ) (T : Table) → Kept T → (x : ℕ) → SameList (named (delivered n h T .members) x) (named (T .members) x)
   unfolding delivered
   delivered-list h T k x = go (live (T .members) h) refl
     where
       go : (b : Bool) → live (T .members) h ≡ b → SameList (named ((if b then rectified h n T else T) .members) x) (named (T .members) x)
-      go true e = noticed-list w T k h (live-in (T .members) h e) n x
+      go true e = noticed-list T k h (live-in (T .members) h e) n x
       go false e = record { list = refl; is-pending = refl }
 
   -- n is a member still
-  pub stays-in : {T T' : Table} → Acted w n T T' → In n (ids (T .members)) → In n (ids (T' .members))
+  pub stays-in : {T T' : Table} → Acted n T T' → In n (ids (T .members)) → In n (ids (T' .members))
   stays-in a i = rw (a .lasts .same-ids) i
 
-  pub acted-last : (T : Table) → Kept w T → In n (ids (T .members)) → Acted w n T (lastStep w n T)
+  pub acted-last : (T : Table) → Kept T → In n (ids (T .members)) → Acted n T (lastStep n T)
   unfolding lastStep
-  acted-last T k i = let a = acted-step w T k n i in acted-trans a (acted-delivered _ (stabilized w n T) (a .lasts .kept) (stays-in a i))
+  acted-last T k i = let a = acted-step T k n i in acted-trans a (acted-delivered _ (stabilized n T) (a .lasts .kept) (stays-in a i))
 
-  pub acted-finished : (T : Table) → Kept w T → In n (ids (T .members)) → Acted w n T (finished w n T)
+  pub acted-finished : (T : Table) → Kept T → In n (ids (T .members)) → Acted n T (finished n T)
   unfolding finished
   acted-finished T k i = go (isPending (named (T .members) n))
     where
-      go : (b : Bool) → Acted w n T (if b then lastStep w n T else T)
+      go : (b : Bool) → Acted n T (if b then lastStep n T else T)
       go true = acted-last T k i
-      go false = acted-none w n T k
+      go false = acted-none n T k
 
-  pub acted-until : (f : ℕ) (T : Table) → Kept w T → In n (ids (T .members)) → Acted w n T (untilDone w f n T)
-  acted-until zero T k i = acted-none w n T k
-  acted-until (suc f) T k i = go (isDone n T) (acted-until f (stabilized w n T))
+  pub acted-until : (f : ℕ) (T : Table) → Kept T → In n (ids (T .members)) → Acted n T (untilDone f n T)
+  acted-until zero T k i = acted-none n T k
+  acted-until (suc f) T k i = go (isDone n T) (acted-until f (stabilized n T))
     where
-      go : (b : Bool) → (Kept w (stabilized w n T) → In n (ids (stabilized w n T .members)) → Acted w n (stabilized w n T) (untilDone w f n (stabilized w n T))) → Acted w n T (if b then lastStep w n T else untilDone w f n (stabilized w n T))
+      go : (b : Bool) → (Kept (stabilized n T) → In n (ids (stabilized n T .members)) → Acted n (stabilized n T) (untilDone f n (stabilized n T))) → Acted n T (if b then lastStep n T else untilDone f n (stabilized n T))
       go true ih = acted-last T k i
-      go false ih = let a = acted-step w T k n i in acted-trans a (ih (a .lasts .kept) (stays-in a i))
+      go false ih = let a = acted-step T k n i in acted-trans a (ih (a .lasts .kept) (stays-in a i))
 
-  pub acted-turn : (T : Table) → Kept w T → In n (ids (T .members)) → Acted w n T (afterTurn w n T)
+  pub acted-turn : (T : Table) → Kept T → In n (ids (T .members)) → Acted n T (afterTurn n T)
   unfolding afterTurn
-  acted-turn T k i = let a = acted-finished T k i in acted-trans a (acted-until (suc (T .r)) (finished w n T) (a .lasts .kept) (stays-in a i))
+  acted-turn T k i = let a = acted-finished T k i in acted-trans a (acted-until (suc (T .r)) (finished n T) (a .lasts .kept) (stays-in a i))
 
 -- Turns and rounds
 
-pub turns-last : (w : ℕ) (ns : List ℕ) (T : Table) → Kept w T → ((n : ℕ) → In n ns → In n (ids (T .members))) → Lasts w T (afterTurns w ns T)
-turns-last w [] T k f = lasts-none w T k
-turns-last w (n ∷ ns) T k f = let a = acted-turn w n T k (f n (here refl)) .lasts in lasts-trans a (turns-last w ns (afterTurn w n T) (a .kept) (λ m i. rw (a .same-ids) (f m (there i))))
+pub turns-last : (ns : List ℕ) (T : Table) → Kept T → ((n : ℕ) → In n ns → In n (ids (T .members))) → Lasts T (afterTurns ns T)
+turns-last [] T k f = lasts-none T k
+turns-last (n ∷ ns) T k f = let a = acted-turn n T k (f n (here refl)) .lasts in lasts-trans a (turns-last ns (afterTurn n T) (a .kept) (λ m i. rw (a .same-ids) (f m (there i))))
 
-pub round-lasts : (w : ℕ) (T : Table) → Kept w T → Lasts w T (afterRound w T)
+pub round-lasts : (T : Table) → Kept T → Lasts T (afterRound T)
 unfolding afterRound
-round-lasts w T k = turns-last w (ids (T .members)) T k (λ n i. i)
+round-lasts T k = turns-last (ids (T .members)) T k (λ n i. i)
 
-pub rounds-last : (w j : ℕ) (T : Table) → Kept w T → Lasts w T (afterRounds w j T)
-rounds-last w zero T k = lasts-none w T k
-rounds-last w (suc j) T k = let a = round-lasts w T k in lasts-trans a (rounds-last w j (afterRound w T) (a .kept))
+pub rounds-last : (j : ℕ) (T : Table) → Kept T → Lasts T (afterRounds j T)
+rounds-last zero T k = lasts-none T k
+rounds-last (suc j) T k = let a = round-lasts T k in lasts-trans a (rounds-last j (afterRound T) (a .kept))

@@ -7,19 +7,18 @@ use native.Mathlib.Omega.{arith}
 use lib.ListN.{length}
 use borrow.Author.Tests.{le-ltb}
 use Rattle.model.specs.Lists.{every, count}
-use Rattle.model.specs.Identifier.{space}
 use Rattle.model.specs.Table.{Member, Table, tableOf, membersIn, ids, wellFormed}
 use Rattle.model.specs.Ring.{live, skips, principal, principals, hasLive, verdict}
 use Rattle.model.specs.Answer.{accepted}
-use Rattle.model.specs.Steps.{without, removed}
+use Rattle.model.specs.Steps.{isNamed, staying, without}
 use Rattle.model.specs.Refusals.{cutsOff, tooFewPrincipals, leaveRefusal}
 use Rattle.model.specs.Calls.{leaveAnswer, leaveWords}
 use Rattle.model.specs.Run.{Leave, callWords, run}
-use Rattle.laws.specs.Lists.{In, here, there, NoDup, count-le, count-all, count-length, count-but-one, count-any, every-in, in-every, rising-nodup, length-ids, named-in, in-ids, live-in, in-live}
+use Rattle.laws.specs.Lists.{In, here, there, NoDup, count-le, count-all, count-length, count-but-one, count-any, every-in, in-every, Rising, rising-nodup, length-ids, named-in, in-ids, live-in, in-live}
 use Rattle.laws.specs.Tables.{Formed, Sound, Ideal, wellFormed-facts, sound-facts, ideal-facts}
 use Rattle.laws.specs.Places.{places-nodup}
 use Rattle.laws.specs.Verdicts.{verdict-facts}
-use Rattle.laws.specs.Removed.{removed-from, removed-ids, removed-keeps, removed-length}
+use Rattle.laws.specs.Removed.{staying-from, staying-ids, without-keeps, without-length}
 use Rattle.theory.specs.Claim.{InRingOrder}
 use Rattle.theory.specs.Static.{lists-in-order}
 use Rattle.theory.specs.Left.{withdrawn-table}
@@ -63,23 +62,23 @@ module _ (k : ℕ) (T : Table) (s : Spare k T) where
       le-ltb (principals (T .members)) (T .r + 1) (omega (arith, s .many, length-ids (T .members), count-all (ids (T .members)), count-le (λ x. true) (principal (T .members)) (ids (T .members)) (λ q i e. all q i)))
 
 -- without a member it can lose one fewer: each list names that one once at most
-without-spare : (k n : ℕ) (T : Table) → In n (ids (T .members)) → Spare (suc k) T → Spare k (without n T)
-without-spare k n T i s = record {
+without-spare : (k n : ℕ) (T : Table) → Rising (ids (T .members)) → In n (ids (T .members)) → Spare (suc k) T → Spare k (without n T)
+without-spare k n T rise i s = record {
   different = λ m j. s .different m (was j);
-  lively = λ m j. omega (arith, s .lively m (was j), count-but-one n (live (T .members)) (live (removed n (T .members))) (m .successors) (s .different m (was j)) stays);
-  unskipped = λ q j m h. s .unskipped q (removed-ids n q (T .members) j) m (was h);
-  many = omega (arith, s .many, removed-length n (T .members) i);
+  lively = λ m j. omega (arith, s .lively m (was j), count-but-one n (live (T .members)) (live (staying (isNamed n) (T .members))) (m .successors) (s .different m (was j)) stays);
+  unskipped = λ q j m h. s .unskipped q (staying-ids (isNamed n) q (T .members) j) m (was h);
+  many = omega (arith, s .many, without-length n (T .members) rise i);
 }
   where
-    was : {m : Member} → In m (removed n (T .members)) → In m (T .members)
-    was {m} j = removed-from n m (T .members) j
+    was : {m : Member} → In m (staying (isNamed n) (T .members)) → In m (T .members)
+    was {m} j = staying-from (isNamed n) m (T .members) j
 
-    stays : (x : ℕ) → (x ≡ n → ⊥) → live (T .members) x ≡ true → live (removed n (T .members)) x ≡ true
-    stays x d h = in-live (removed n (T .members)) (removed-keeps n x (T .members) (live-in (T .members) x h) d)
+    stays : (x : ℕ) → (x ≡ n → ⊥) → live (T .members) x ≡ true → live (staying (isNamed n) (T .members)) x ≡ true
+    stays x d h = in-live (staying (isNamed n) (T .members)) (without-keeps n x (T .members) (live-in (T .members) x h) d)
 
 -- A sound and ideal table of m members can lose r - 1, and m - r - 1
 
-ideal-spare : (k : ℕ) (T : Table) → Formed space T → Sound T → Ideal T → k < T .r → k + (T .r + 1) ≤ length (T .members) → Spare k T
+ideal-spare : (k : ℕ) (T : Table) → Formed T → Sound T → Ideal T → k < T .r → k + (T .r + 1) ≤ length (T .members) → Spare k T
 ideal-spare k T fo so d few enough = record {
   different = λ m i. places-nodup (m .id ∷ m .successors) (ordered m i .different) .1;
   lively = λ m i. omega (arith, fo .each m i .list-length, count-all (m .successors), count-le (λ x. true) (live (T .members)) (m .successors) (λ x j e. in-live (T .members) (entry m i j)));
@@ -88,17 +87,20 @@ ideal-spare k T fo so d few enough = record {
 }
   where
     ordered : (m : Member) → In m (T .members) → InRingOrder (T .r) (m .id) (m .successors)
-    ordered m i = rw (named-in (T .members) (rising-nodup (ids (T .members)) (fo .ids-rising)) i) at (lists-in-order space T fo so (m .id) (in-ids i))
+    ordered m i = rw (named-in (T .members) (rising-nodup (ids (T .members)) (fo .ids-rising)) i) at (lists-in-order T fo so (m .id) (in-ids i))
 
     entry : {x : ℕ} (m : Member) → In m (T .members) → In x (m .successors) → In x (ids (T .members))
     entry {x} m i j = ups-in (ids (T .members)) (omega (arith, enough, length-ids (T .members))) (T .r) (m .id) x (rw (d .each m i .list) at j)
 
 -- The withdrawals, one after the other
 
+rising-in : (ws : List ℕ) → wellFormed ws ≡ true → Rising (ids (membersIn ws))
+rising-in ws h = wellFormed-facts ws h .table .ids-rising
+
 granted : (ws : List ℕ) (n k : ℕ) → wellFormed ws ≡ true → In n (ids (membersIn ws)) → Spare (suc k) (tableOf ws) → leaveRefusal ws n ≡ 0
 unfolding leaveRefusal
 granted ws n k h i s =
-    let t = without-spare k n (tableOf ws) i s in
+    let t = without-spare k n (tableOf ws) (rising-in ws h) i s in
     rw (h, in-live (membersIn ws) i, none-cut-off k (without n (tableOf ws)) t, enough-principals k (without n (tableOf ws)) t)
 
 grants : (ws before : List ℕ) (n : ℕ) (later : List ℕ) → Good ws → NoDup (before ++ (n ∷ later)) → ((x : ℕ) → In x (before ++ (n ∷ later)) → In x (ids (membersIn ws))) →
@@ -106,17 +108,17 @@ grants : (ws before : List ℕ) (n : ℕ) (later : List ℕ) → Good ws → NoD
 unfolding run callWords leaveAnswer
 grants ws [] n later g nd all s =
     let i = all n (here refl) in
-    let e : length (removed n (membersIn ws)) ≡ length (membersIn ws) - 0 - 1 = omega (arith, removed-length n (membersIn ws) i) in
+    let e : length (staying (isNamed n) (membersIn ws)) ≡ length (membersIn ws) - 0 - 1 = omega (arith, without-length n (membersIn ws) (rising-in ws (g .well-formed)) i) in
     rw (granted ws n (length later) (g .well-formed) i s, e)
 grants ws (b ∷ before) n later g nd all s =
     let i = all b (here refl) in
     let e = granted ws b (length (before ++ (n ∷ later))) (g .well-formed) i s in
     let t = withdrawn-table ws b e in
-    let ms : membersIn (leaveWords ws b) ≡ removed b (membersIn ws) = ap (λ (T : Table). T .members) t in
-    let c : length (membersIn (leaveWords ws b)) - length before - 1 ≡ length (membersIn ws) - suc (length before) - 1 = omega (arith, removed-length b (membersIn ws) i, ap length ms) in
+    let ms : membersIn (leaveWords ws b) ≡ staying (isNamed b) (membersIn ws) = ap (λ (T : Table). T .members) t in
+    let c : length (membersIn (leaveWords ws b)) - length before - 1 ≡ length (membersIn ws) - suc (length before) - 1 = omega (arith, without-length b (membersIn ws) (rising-in ws (g .well-formed)) i, ap length ms) in
     rw (← c) (grants (leaveWords ws b) before n later (leave-good ws g b) (nd .1)
-    (λ x j. rw ms (removed-keeps b x (membersIn ws) (all x (there j)) (λ q. nd .0 (rw q at j))))
-    (rw t (without-spare _ b (tableOf ws) i s)))
+    (λ x j. rw ms (without-keeps b x (membersIn ws) (all x (there j)) (λ q. nd .0 (rw q at j))))
+    (rw t (without-spare _ b (tableOf ws) (rising-in ws (g .well-formed)) i s)))
 
 pub withdrawals-granted : (ws ns : List ℕ) → MaySpare ws ns → AllGranted ws ns
 withdrawals-granted ws ns m before n later e =

@@ -5,7 +5,6 @@ use mathlib.Core.Path.{_≡_, refl, sym, ap, subst, _∙_}
 use mathlib.Core.List.{List}
 use native.Mathlib.Omega.{arith}
 use lib.ListN.{length, getD}
-use Rattle.model.specs.Identifier.{space}
 use Rattle.model.specs.Table.{Table, size, tableOf, membersIn, ids}
 use Rattle.model.specs.Calls.{written}
 use Rattle.laws.specs.Lists.{In}
@@ -30,10 +29,10 @@ stands-in {ws} {k} s = subst (λ (x : ℕ). In x (ids (membersIn ws))) (s .has-i
 module _ {ws : List ℕ} (g : Good ws) where
   -- before the first turn
   pub lasting-none : Lasting ws ws
-  lasting-none = let w = wellFormed-facts ws (g .well-formed) in record { in-place = sym (written-same ws (w .header) (w .fits)); as-long = refl; lasts = lasts-none space (tableOf ws) (good-kept ws g) }
+  lasting-none = let w = wellFormed-facts ws (g .well-formed) in record { in-place = sym (written-same ws (w .header) (w .fits)); as-long = refl; lasts = lasts-none (tableOf ws) (good-kept ws g) }
 
   -- a table that lasts, put in the place of that of ws
-  module _ (T : Table) (l : Lasts space (tableOf ws) T) where
+  module _ (T : Table) (l : Lasts (tableOf ws) T) where
     fits : size T ≤ length ws
     fits = omega (arith, same-size l, wellFormed-facts ws (g .well-formed) .fits)
 
@@ -41,10 +40,10 @@ module _ {ws : List ℕ} (g : Good ws) where
     lasting-good = written-good T ws (l .kept) fits
 
     lasting-table : tableOf (written T ws) ≡ T
-    lasting-table = written-table T ws (formed-lists space T (l .kept .formed))
+    lasting-table = written-table T ws (formed-lists T (l .kept .formed))
 
     lasting-length : length (written T ws) ≡ length ws
-    lasting-length = written-length T ws (formed-lists space T (l .kept .formed)) fits
+    lasting-length = written-length T ws (formed-lists T (l .kept .formed)) fits
 
   module _ {us : List ℕ} (o : Lasting ws us) where
     pub good-still : Good us
@@ -60,11 +59,11 @@ module _ {ws : List ℕ} (g : Good ws) where
     stands-still {k} s = record { within = omega (arith, same-count, s .within); has-id = same-place k ∙ s .has-id }
 
     -- a table that lasts from that of us, written over us
-    module _ (X : Table) (l : Lasts space (tableOf us) X) where
+    module _ (X : Table) (l : Lasts (tableOf us) X) where
       pub written-still : written X us ≡ written X ws
       written-still =
-          let lists = formed-lists space X (l .kept .formed) in
-          ap (written X) (o .in-place) ∙ written-over X (tableOf us) ws lists (formed-lists space (tableOf us) (o .lasts .kept .formed)) (same-size l)
+          let lists = formed-lists X (l .kept .formed) in
+          ap (written X) (o .in-place) ∙ written-over X (tableOf us) ws lists (formed-lists (tableOf us) (o .lasts .kept .formed)) (same-size l)
 
 -- vs has the table X, which follows from that of ws
 pub record Next (ws : List ℕ) (X : Table) (vs : List ℕ) : Type 0 where
@@ -72,7 +71,7 @@ pub record Next (ws : List ℕ) (X : Table) (vs : List ℕ) : Type 0 where
   pub follows : Lasting ws vs
 
 -- so it is where X follows from that of us, which does from that of ws
-pub lasting-next : {ws us vs : List ℕ} → Good ws → Lasting ws us → (X : Table) → Lasts space (tableOf us) X → vs ≡ written X us → Next ws X vs
+pub lasting-next : {ws us vs : List ℕ} → Good ws → Lasting ws us → (X : Table) → Lasts (tableOf us) X → vs ≡ written X us → Next ws X vs
 lasting-next {ws} {us} {vs} g o X l e =
     let has : tableOf vs ≡ X = ap tableOf e ∙ lasting-table (good-still g o) X l in
     record {
@@ -80,6 +79,6 @@ lasting-next {ws} {us} {vs} g o X l e =
       follows = record {
         in-place = e ∙ (written-still g o X l ∙ ap (λ (T : Table). written T ws) (sym has));
         as-long = ap length e ∙ (lasting-length (good-still g o) X l ∙ o .as-long);
-        lasts = subst (Lasts space (tableOf ws)) (sym has) (lasts-trans (o .lasts) l);
+        lasts = subst (Lasts (tableOf ws)) (sym has) (lasts-trans (o .lasts) l);
       };
     }

@@ -9,11 +9,10 @@ use lib.Dec.{eqb}
 use lib.ListN.{getD}
 use denote.Enum.Declared.{tagOf}
 use types.Run.{OneOf}
-use Rattle.model.specs.Identifier.{space}
-use Rattle.model.specs.Table.{Member, Table, tableOf, membersIn}
-use Rattle.model.specs.Ring.{live, named, nobody}
+use Rattle.model.specs.Table.{Table, tableOf, membersIn, ids}
+use Rattle.model.specs.Ring.{live, named}
 use Rattle.model.specs.Answer.{Answer, accepted}
-use Rattle.model.specs.Steps.{stabilize, stabilizeReply, nextStep, stabilized, replaced, rectifyIn, rectified, withMembers, withSteps}
+use Rattle.model.specs.Steps.{stabilizeReply, stabilized, rectified}
 use Rattle.model.specs.Settle.{delivered, nextReply, isDone, lastStep}
 use Rattle.model.specs.Calls.{written}
 use Rattle.theory.specs.Runs.{Good, good-kept}
@@ -24,7 +23,7 @@ use Rattle.step.specs.declared.Step.the-variants.{Again, Look, Done, Declined}
 use Rattle.step.proofs.Step as S
 use Rattle.table.specs.Formed.{Formed}
 use Rattle.table.specs.Search.{Stands}
-use Rattle.table.proofs.Place.{same-words, stands-live, stands-named}
+use Rattle.table.proofs.Place.{same-words, stands-live}
 use Rattle.turns.proofs.Lasting.{stands-in, lasting-none, stands-still, written-still, Next, lasting-next}
 
 -- a step that is not "done"
@@ -51,19 +50,18 @@ module _ (ws : List ℕ) (f : Formed ws) where
   pub notice-lost : (q h : ℕ) → live (membersIn ws) h ≡ false → ws ≡ written (delivered q h (tableOf ws)) ws
   notice-lost q h l = same-words ws f ∙ ap (λ (T : Table). written T ws) (to-none q h (tableOf ws) l)
 
-  pub notice-taken : (q h k : ℕ) (us : List ℕ) → Stands ws k h → us ≡ written (withMembers (replaced (rectifyIn (membersIn ws) q (getD (membersIn ws) k nobody)) (membersIn ws)) (tableOf ws)) ws → us ≡ written (delivered q h (tableOf ws)) ws
+  pub notice-taken : (q h k : ℕ) (us : List ℕ) → Stands ws k h → us ≡ written (rectified (getD (ids (membersIn ws)) k 0) q (tableOf ws)) ws → us ≡ written (delivered q h (tableOf ws)) ws
   notice-taken q h k us s e =
-      e ∙ ap (λ (v : Member). written (withMembers (replaced (rectifyIn (membersIn ws) q v) (membersIn ws)) (tableOf ws)) ws) (stands-named f s) ∙ ap (λ (T : Table). written T ws) (to-member q h (tableOf ws) (stands-live f s))
+      e ∙ ap (λ (x : ℕ). written (rectified x q (tableOf ws)) ws) (s .has-id) ∙ ap (λ (T : Table). written T ws) (to-member q h (tableOf ws) (stands-live f s))
 
   -- a step of n, which stands at place k
   module _ (k n : ℕ) (s : Stands ws k n) where
-    pub step-words : (us : List ℕ) → us ≡ written (withSteps (nextStep (tableOf ws .steps)) (withMembers (replaced (stabilize space (membersIn ws) (getD (membersIn ws) k nobody)) (membersIn ws)) (tableOf ws))) ws → us ≡ written (stabilized space n (tableOf ws)) ws
-    step-words us e =
-        e ∙ ap (λ (v : Member). written (withSteps (nextStep (tableOf ws .steps)) (withMembers (replaced (stabilize space (membersIn ws) v) (membersIn ws)) (tableOf ws))) ws) (stands-named f s)
+    pub step-words : (us : List ℕ) → us ≡ written (stabilized (getD (ids (membersIn ws)) k 0) (tableOf ws)) ws → us ≡ written (stabilized n (tableOf ws)) ws
+    step-words us e = e ∙ ap (λ (x : ℕ). written (stabilized x (tableOf ws)) ws) (s .has-id)
 
-    module _ (a : Step) (e : answerOf a ≡ accepted (stabilizeReply (membersIn ws) (getD (membersIn ws) k nobody))) where
+    module _ (a : Step) (e : answerOf a ≡ accepted (stabilizeReply (membersIn ws) (named (membersIn ws) (getD (ids (membersIn ws)) k 0)))) where
       says : answerOf a .values ≡ nextReply n (tableOf ws)
-      says = ap (λ (x : Answer). x .values) e ∙ ap (stabilizeReply (membersIn ws)) (stands-named f s)
+      says = ap (λ (x : Answer). x .values) e ∙ ap (λ (x : ℕ). nextReply x (tableOf ws)) (s .has-id)
 
       pub not-done : OneOf (0 ∷ 1 ∷ 3 ∷ []) (tagOf S.the-type a) → isDone n (tableOf ws) ≡ false
       not-done o = ap (λ (l : List ℕ). eqb (getD l 0 0) 2) (sym says) ∙ first-value a o
@@ -76,18 +74,18 @@ module _ (n h : ℕ) (T : Table) (e : nextReply n T ≡ 2 ∷ h ∷ []) where
   pub done-true : isDone n T ≡ true
   done-true = ap (λ (l : List ℕ). eqb (getD l 0 0) 2) e
 
-  done-last : delivered n h (stabilized space n T) ≡ lastStep space n T
+  done-last : delivered n h (stabilized n T) ≡ lastStep n T
   unfolding lastStep
-  done-last = ap (λ (l : List ℕ). delivered n (getD l 1 0) (stabilized space n T)) (sym e)
+  done-last = ap (λ (l : List ℕ). delivered n (getD l 1 0) (stabilized n T)) (sym e)
 
 -- after a step of n, which stands at place k
-module _ {ws us : List ℕ} {k n : ℕ} (g : Good ws) (s : Stands ws k n) (e : us ≡ written (stabilized space n (tableOf ws)) ws) where
-  pub stepped : Next ws (stabilized space n (tableOf ws)) us
-  stepped = lasting-next g (lasting-none g) (stabilized space n (tableOf ws)) (acted-step space (tableOf ws) (good-kept ws g) n (stands-in s) .lasts) e
+module _ {ws us : List ℕ} {k n : ℕ} (g : Good ws) (s : Stands ws k n) (e : us ≡ written (stabilized n (tableOf ws)) ws) where
+  pub stepped : Next ws (stabilized n (tableOf ws)) us
+  stepped = lasting-next g (lasting-none g) (stabilized n (tableOf ws)) (acted-step (tableOf ws) (good-kept ws g) n (stands-in s) .lasts) e
 
   -- its notice to h is delivered
-  pub noticed : {vs : List ℕ} (h : ℕ) → nextReply n (tableOf ws) ≡ 2 ∷ h ∷ [] → vs ≡ written (delivered n h (tableOf us)) us → vs ≡ written (lastStep space n (tableOf ws)) ws
+  pub noticed : {vs : List ℕ} (h : ℕ) → nextReply n (tableOf ws) ≡ 2 ∷ h ∷ [] → vs ≡ written (delivered n h (tableOf us)) us → vs ≡ written (lastStep n (tableOf ws)) ws
   noticed h r q =
       let o = stepped .follows in
-      let l = acted-delivered space n h (tableOf us) (o .lasts .kept) (stands-in (stands-still g o s)) .lasts in
+      let l = acted-delivered n h (tableOf us) (o .lasts .kept) (stands-in (stands-still g o s)) .lasts in
       q ∙ (written-still g o (delivered n h (tableOf us)) l ∙ ap (λ (T : Table). written T ws) (ap (delivered n h) (stepped .has) ∙ done-last n h (tableOf ws) r))

@@ -3,7 +3,6 @@ use Prim.Native.Nat.{ℕ}
 use mathlib.Core.Path.{_≡_}
 use mathlib.Core.List.{List}
 use lib.ListN.{length}
-use Rattle.model.specs.Identifier.{space}
 use Rattle.model.specs.Table.{tableOf}
 use Rattle.model.specs.Calls.{written}
 use Rattle.theory.specs.Turns.{Lasts}
@@ -12,4 +11,4 @@ use Rattle.theory.specs.Turns.{Lasts}
 pub record Lasting (ws us : List ℕ) : Type 0 where
   pub in-place : us ≡ written (tableOf us) ws
   pub as-long : length us ≡ length ws
-  pub lasts : Lasts space (tableOf ws) (tableOf us)
+  pub lasts : Lasts (tableOf ws) (tableOf us)

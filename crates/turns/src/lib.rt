@@ -3,7 +3,6 @@ ghost use mathlib.Core.Path.{_≡_};
 ghost use Prim.Native.Nat.{suc, _<_};
 ghost use lib.ListN.{getD};
 ghost use Rattle.model.specs.Lists.{if_then_else_};
-ghost use Rattle.model.specs.Identifier.{space};
 ghost use Rattle.model.specs.Table.{tableOf, membersIn, ids};
 ghost use Rattle.model.specs.Ring.{isPending, nobody};
 ghost use Rattle.model.specs.Steps.{stabilized};
@@ -23,16 +22,16 @@ fn deliver(t: &mut [u32], h: u32, q: u32)
     let Search::Here(k) = table::find(t, h) else {
         return;
     };
-    rectify::rectify_at(t, k, q);
+    rectify_at::rectify_at(t, k, q);
 }
 
 // One step of the member n, which stands at place k, and its notice if it says "done": does it?
 fn step(t: &mut [u32], k: usize, n: u32) -> bool
     requires { ⌜ Good (now t) ⌝ }
     requires { ⌜ Stands (now t) k n ⌝ }
-    ensures { λ b. ⌜ (b ≡ isDone n (tableOf (now (t .entry)))) × (now (t .exit) ≡ written (if isDone n (tableOf (now (t .entry))) then lastStep space n (tableOf (now (t .entry))) else stabilized space n (tableOf (now (t .entry)))) (now (t .entry))) ⌝ }
+    ensures { λ b. ⌜ (b ≡ isDone n (tableOf (now (t .entry)))) × (now (t .exit) ≡ written (if isDone n (tableOf (now (t .entry))) then lastStep n (tableOf (now (t .entry))) else stabilized n (tableOf (now (t .entry)))) (now (t .entry))) ⌝ }
 {
-    let Step::Done(h) = stabilize::stabilize_at(t, k) else {
+    let Step::Done(h) = stabilize_at::stabilize_at(t, k) else {
         return false;
     };
     deliver(t, h, n);
@@ -52,7 +51,7 @@ fn is_pending(t: &[u32], k: usize) -> bool
 fn finish_pending(t: &mut [u32], k: usize, n: u32)
     requires { ⌜ Good (now t) ⌝ }
     requires { ⌜ Stands (now t) k n ⌝ }
-    ensures { λ _. ⌜ now (t .exit) ≡ written (finished space n (tableOf (now (t .entry)))) (now (t .entry)) ⌝ }
+    ensures { λ _. ⌜ now (t .exit) ≡ written (finished n (tableOf (now (t .entry)))) (now (t .entry)) ⌝ }
 {
     if is_pending(t, k) {
         step(t, k, n);
@@ -63,7 +62,7 @@ fn finish_pending(t: &mut [u32], k: usize, n: u32)
 fn until_done(t: &mut [u32], k: usize, n: u32)
     requires { ⌜ Good (now t) ⌝ }
     requires { ⌜ Stands (now t) k n ⌝ }
-    ensures { λ _. ⌜ now (t .exit) ≡ written (untilDone space (suc (tableOf (now (t .entry)) .r)) n (tableOf (now (t .entry)))) (now (t .entry)) ⌝ }
+    ensures { λ _. ⌜ now (t .exit) ≡ written (untilDone (suc (tableOf (now (t .entry)) .r)) n (tableOf (now (t .entry)))) (now (t .entry)) ⌝ }
 {
     let mut left = t[0] as usize + 1;
     while 0 < left {
@@ -78,7 +77,7 @@ fn until_done(t: &mut [u32], k: usize, n: u32)
 fn turn_at(t: &mut [u32], k: usize)
     requires { ⌜ Good (now t) ⌝ }
     requires { ⌜ k < getD (now t) 1 0 ⌝ }
-    ensures { λ _. ⌜ now (t .exit) ≡ written (afterTurn space (getD (ids (membersIn (now (t .entry)))) k 0) (tableOf (now (t .entry)))) (now (t .entry)) ⌝ }
+    ensures { λ _. ⌜ now (t .exit) ≡ written (afterTurn (getD (ids (membersIn (now (t .entry)))) k 0) (tableOf (now (t .entry)))) (now (t .entry)) ⌝ }
 {
     let n = table::word_at(t, k, 0);
     finish_pending(t, k, n);
@@ -88,7 +87,7 @@ fn turn_at(t: &mut [u32], k: usize)
 // A round: the turn of each member, by rising identifier.
 pub fn run_round(t: &mut [u32])
     requires { ⌜ Good (now t) ⌝ }
-    ensures { λ _. ⌜ now (t .exit) ≡ written (afterRound space (tableOf (now (t .entry)))) (now (t .entry)) ⌝ }
+    ensures { λ _. ⌜ now (t .exit) ≡ written (afterRound (tableOf (now (t .entry)))) (now (t .entry)) ⌝ }
 {
     let n = t[1] as usize;
     let mut left = n;

@@ -5,10 +5,10 @@ use mathlib.Core.List.{List, [], _∷_, _++_}
 use native.Mathlib.Nat.{mul-le-mul-right, le-trans, add-comm}
 use native.Mathlib.Numerals.{add-one, add-four}
 use native.Mathlib.Omega.{arith}
-use lib.ListN.{length, getD, take, drop, set}
-use lib.Seq.{take-suc, take-suc-set, take-take, paste}
+use lib.ListN.{length, getD, take, drop, set, length-drop}
+use lib.Seq.{take-suc, take-suc-set, take-take, getD-drop, paste}
 use Rattle.model.specs.Table.{recordSize}
-use Rattle.laws.specs.Parts.{take-eight}
+use Rattle.laws.specs.Parts.{eight, take-eight}
 
 -- 256 records with lists of 8 are the most
 pub most-words : (n r : ℕ) → n ≤ 256 → r ≤ 8 → n * recordSize r ≤ 256 * recordSize 8
@@ -20,11 +20,9 @@ copied-more i l s v hl hs e q = rw (add-one, take-suc-set l i v hl, take-suc s i
 
 -- `read_member`: eight entries at once, of which the first r count
 pub entries-at-once : (r : ℕ) (ws : List ℕ) → r ≤ 8 → 12 ≤ length ws → take r (getD ws 4 0 ∷ getD ws 5 0 ∷ getD ws 6 0 ∷ getD ws 7 0 ∷ getD ws 8 0 ∷ getD ws 9 0 ∷ getD ws 10 0 ∷ getD ws 11 0 ∷ []) ≡ take r (drop 4 ws)
-entries-at-once r [] h k = absurd (omega arith)
-entries-at-once r (a ∷ []) h k = absurd (omega arith)
-entries-at-once r (a ∷ b ∷ []) h k = absurd (omega arith)
-entries-at-once r (a ∷ b ∷ c ∷ []) h k = absurd (omega arith)
-entries-at-once r (a ∷ b ∷ c ∷ d ∷ l) h k = ap (take r) (sym (take-eight l (omega arith))) ∙ take-take r 8 l h
+entries-at-once r ws h k =
+    let said : eight (drop 4 ws) ≡ getD ws 4 0 ∷ getD ws 5 0 ∷ getD ws 6 0 ∷ getD ws 7 0 ∷ getD ws 8 0 ∷ getD ws 9 0 ∷ getD ws 10 0 ∷ getD ws 11 0 ∷ [] = simp getD-drop in
+    ap (take r) (sym (take-eight (drop 4 ws) (rw length-drop (omega arith)) ∙ said)) ∙ take-take r 8 (drop 4 ws) h
 
 -- `write_member`: four words stored, and then r entries copied
 pub entries-written : (a b c d : ℕ) (l s : List ℕ) (r : ℕ) → 4 ≤ length l → paste (set (set (set (set l 0 a) 1 b) 2 c) 3 d) 4 s r ≡ (a ∷ b ∷ c ∷ d ∷ take r s) ++ drop (4 + r) l

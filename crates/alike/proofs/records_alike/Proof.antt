@@ -6,7 +6,8 @@ use lib.ListN.{length}
 use lib.Seq.{length-take-le}
 use borrow.Author.Needs.{needs}
 use Rattle.model.specs.Table.{recordSize, memberOf, membersOf}
-use Rattle.laws.specs.Parts.{part-from, one-fits, rest-fits, member-part}
+use Rattle.laws.specs.Parts.{part-from, one-fits, rest-fits}
+use Rattle.laws.specs.Words.{member-part}
 use Rattle.alike.proofs.Records.{sameMember, sameMembers, unlike-here, alike-on}
 use Rattle.alike.proofs.records_alike.Statement.{statement}
 use Rattle.alike.proofs.records_alike.Tie as tie
@@ -47,7 +48,7 @@ same-test c =
     let i = c .before .before .before in
     let r = start i .args .r in
     let w = size i .width .ensures in
-    c .record-alike .ensures r (search needs) ∙ ap₂ sameMember (member-part r _ (i .before .loop .p .now) w) (member-part r _ (i .before .loop .q .now) w)
+    c .record-alike .ensures r (search needs) ∙ ap₂ sameMember (member-part r _ (i .before .loop .p .now) w (one i .0)) (member-part r _ (i .before .loop .q .now) w (one i .1))
 
 sub-p : tie.Need-sub-p Inv-loop μ-loop
 sub-p c = one (c .before .before .before .before) .0

@@ -18,7 +18,7 @@ returns c =
     let s = c .before .before .before .before .before .before in
     let ws = s .args .t .now in
     let x = getD (ids (membersIn ws)) (s .args .k) 0 in
-    let f = one-fewer ws x (stands-live (s .pre .0) (own-place ws (s .args .k) (s .pre .1))) in
+    let f = one-fewer ws x (s .pre .0) (stands-live (s .pre .0) (own-place ws (s .args .k) (s .pre .1))) in
     let e : getD ws 1 0 - 1 ≡ length (without x (tableOf ws) .members) = omega (arith, f) in
     (ap (λ (m : ℕ). accepted (m ∷ [])) e, c .before .before .remove-at .ensures)
 

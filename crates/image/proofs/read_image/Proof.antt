@@ -1,13 +1,17 @@
 -- `read_image` meets its contract: the header and the records. Assumes nothing.
-use Prim.Native.Nat.{_*_, _-_, _≤_}
-use mathlib.Core.Path.{_∙_}
+use Prim.Native.Nat.{ℕ, _*_, _-_, _≤_}
+use mathlib.Core.Path.{ap₂, _∙_}
+use mathlib.Core.List.{[], _∷_}
 use native.Mathlib.Omega.{arith}
-use lib.ListN.{length, length-set, length-drop}
-use Rattle.model.specs.Image.{imageR, imageCount}
+use lib.ListN.{length, drop, length-set, length-drop}
+use lib.Seq.{sets}
+use Rattle.model.specs.Table.{headerSize, recordsOf}
+use Rattle.model.specs.Image.{imageR, imageCount, fieldMembers}
 use Rattle.laws.specs.Bytes.{fieldSize}
 use Rattle.laws.specs.Parts.{part-from}
 use Rattle.fields.specs.Fields.{firstSize}
-use Rattle.image.proofs.Whole.{table-read}
+use Rattle.octets.specs.Placed.{placed}
+use Rattle.image.proofs.Whole.{header-read, table-read}
 use borrow.Author.Needs.{needs}
 use Rattle.image.proofs.read_image.Statement.{statement}
 use Rattle.image.proofs.read_image.Tie as tie
@@ -36,7 +40,10 @@ returns c =
     let steps = c .before .before .before .before .before in
     let counted = steps .before in
     let a = counted .before .before .before .before .args in
-    table-read (a .image .now) (a .t .now) _ (counted .before .image-r .result) (counted .image-count .result) (steps .image-steps .result) (counted .before .image-r .ensures .0) (counted .image-count .ensures .0) (steps .image-steps .ensures) (omega arith) (rw part-from at (c .before .before .read-fields .ensures))
+    let r = counted .before .image-r .ensures .0 in
+    let n = counted .image-count .ensures .0 in
+    let records = ap₂ (λ (i j : ℕ). placed headerSize (recordsOf (fieldMembers i j (drop firstSize (a .image .now)))) (sets (a .t .now) 0 (counted .before .image-r .result ∷ counted .image-count .result ∷ steps .image-steps .result ∷ []))) r n in
+    table-read (a .image .now) (a .t .now) _ _ (header-read (a .image .now) _ _ _ r n (steps .image-steps .ensures)) (omega arith) ((rw part-from at (c .before .before .read-fields .ensures)) ∙ records)
 
 pub read-image-spec : {M : Type 1} → statement M
 read-image-spec =

@@ -7,7 +7,7 @@ use Rattle.model.specs.Table.{recordSize}
 use Rattle.member.specs.View.{view}
 use Rattle.table.proofs.Members.{record-fits}
 use Rattle.table.proofs.Place.{stands-at}
-use Rattle.records.proofs.Edits.{header-of, replace-words}
+use Rattle.records.proofs.Edits.{replace-words}
 use borrow.Author.Needs.{needs}
 use Rattle.records.proofs.replace_at.Statement.{statement}
 use Rattle.records.proofs.replace_at.Tie as tie
@@ -41,7 +41,7 @@ returns c =
     let s = start o in
     let ws = s .args .t .now in
     let e = eight s in
-    replace-words (header-of ws (s .pre .0 .header)) (view (getD ws 0 0) (s .args .m)) (o .offset .result) (s .args .k) (w .write-member .last .0) (simp length-take (omega arith)) (stands-at (s .pre .0) (s .pre .1)) (o .offset .ensures .0) (s .pre .0 .fits) (w .write-member .ensures)
+    replace-words ws (s .pre .0 .header) (view (getD ws 0 0) (s .args .m)) (o .offset .result) (s .args .k) (w .write-member .last .0) (simp length-take (omega arith)) (stands-at (s .pre .0) (s .pre .1)) (o .offset .ensures .0) (s .pre .0 .fits) (w .write-member .ensures)
 
 pub replace-at-spec : {M : Type 1} → statement M
 replace-at-spec =

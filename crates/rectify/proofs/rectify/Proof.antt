@@ -1,11 +1,12 @@
 -- `rectify` meets its contract: declined it writes nothing, else the member that stands at the place takes the notice. Assumes nothing.
+use Prim.Native.Nat.{ℕ}
 use mathlib.Core.Path.{sym, ap, _∙_}
 use borrow.Author.Needs.{needs}
-use Rattle.model.specs.Table.{Member, membersIn, tableOf}
+use Rattle.model.specs.Table.{membersIn, tableOf}
+use Rattle.model.specs.Ring.{named}
 use Rattle.model.specs.Answer.{accepted}
-use Rattle.model.specs.Steps.{rectifyIn, rectifyReply, replaced, withMembers}
+use Rattle.model.specs.Steps.{rectifyReply, rectified}
 use Rattle.model.specs.Calls.{written, rectifyAnswer, rectifyWords}
-use Rattle.table.proofs.Place.{stands-named}
 use Rattle.refusal.proofs.Laws.{Called, called, refused, refused-call}
 use Rattle.rectify.proofs.rectify.Statement.{statement}
 use Rattle.rectify.proofs.rectify.Tie as tie
@@ -27,8 +28,8 @@ returns c =
     let g = granted k in
     let a = start (k .before .before) .args in
     let ws = a .t .now in
-    let m = stands-named (g .table) (g .stands) in
-    (rw (g .granted) (r .rectify-at .ensures .0 ∙ ap (λ (v : Member). accepted (rectifyReply (membersIn ws) (a .q) v)) m), rw (g .granted) (r .rectify-at .ensures .1 ∙ ap (λ (v : Member). written (withMembers (replaced (rectifyIn (membersIn ws) (a .q) v) (membersIn ws)) (tableOf ws)) ws) m))
+    let e = g .stands .has-id in
+    (rw (g .granted) (r .rectify-at .ensures .0 ∙ ap (λ (x : ℕ). accepted (rectifyReply (membersIn ws) (a .q) (named (membersIn ws) x))) e), rw (g .granted) (r .rectify-at .ensures .1 ∙ ap (λ (x : ℕ). written (rectified x (a .q) (tableOf ws)) ws) e))
 
 returns-2 : tie.Need-returns-2
 unfolding rectifyAnswer rectifyWords

@@ -1,7 +1,6 @@
 -- `round_of` meets its contract: the round keeps the table sound, so the verdict after it needs no test of that. Assumes nothing.
 use mathlib.Core.Path.{ap, _∙_}
 use borrow.Author.Needs.{needs}
-use Rattle.model.specs.Identifier.{space}
 use Rattle.model.specs.Table.{tableOf}
 use Rattle.model.specs.Ring.{verdict}
 use Rattle.model.specs.Settle.{afterRound}
@@ -13,7 +12,7 @@ use Rattle.settle.proofs.round_of.Tie as tie
 abbrev start : tie.After-run-round → tie.Start
 start c = c .before .before .before
 
-ran : (c : tie.After-run-round) → let ws = start c .args .t .now in Next ws (afterRound space (tableOf ws)) (c .run-round .last .0)
+ran : (c : tie.After-run-round) → let ws = start c .args .t .now in Next ws (afterRound (tableOf ws)) (c .run-round .last .0)
 ran c = round-next (start c .pre) (c .run-round .ensures)
 
 verdict-now-requires : tie.Need-verdict-now-requires

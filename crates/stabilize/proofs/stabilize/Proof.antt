@@ -1,12 +1,12 @@
 -- `stabilize` meets its contract: declined it writes nothing, else the member that stands at the place takes the step. Assumes nothing.
+use Prim.Native.Nat.{ℕ}
 use mathlib.Core.Path.{sym, ap, _∙_}
 use borrow.Author.Needs.{needs}
-use Rattle.model.specs.Identifier.{space}
-use Rattle.model.specs.Table.{Member, membersIn, tableOf}
+use Rattle.model.specs.Table.{membersIn, tableOf}
+use Rattle.model.specs.Ring.{named}
 use Rattle.model.specs.Answer.{accepted}
-use Rattle.model.specs.Steps.{stabilize, stabilizeReply, nextStep, replaced, withMembers, withSteps}
+use Rattle.model.specs.Steps.{stabilizeReply, stabilized}
 use Rattle.model.specs.Calls.{written, stabilizeAnswer, stabilizeWords}
-use Rattle.table.proofs.Place.{stands-named}
 use Rattle.refusal.proofs.Laws.{Called, called, refused, refused-call}
 use Rattle.stabilize.proofs.stabilize.Statement.{statement}
 use Rattle.stabilize.proofs.stabilize.Tie as tie
@@ -27,8 +27,8 @@ returns c =
     let k = r .before .before .before in
     let g = granted k in
     let ws = start (k .before .before) .args .t .now in
-    let m = stands-named (g .table) (g .stands) in
-    (rw (g .granted) (r .stabilize-at .ensures .0 ∙ ap (λ (v : Member). accepted (stabilizeReply (membersIn ws) v)) m), rw (g .granted) (r .stabilize-at .ensures .1 ∙ ap (λ (v : Member). written (withSteps (nextStep (tableOf ws .steps)) (withMembers (replaced (stabilize space (membersIn ws) v) (membersIn ws)) (tableOf ws))) ws) m))
+    let e = g .stands .has-id in
+    (rw (g .granted) (r .stabilize-at .ensures .0 ∙ ap (λ (x : ℕ). accepted (stabilizeReply (membersIn ws) (named (membersIn ws) x))) e), rw (g .granted) (r .stabilize-at .ensures .1 ∙ ap (λ (x : ℕ). written (stabilized x (tableOf ws)) ws) e))
 
 returns-2 : tie.Need-returns-2
 unfolding stabilizeAnswer stabilizeWords

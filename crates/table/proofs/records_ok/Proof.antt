@@ -8,7 +8,8 @@ use lib.ListN.{length, getD, length-drop}
 use lib.Seq.{length-take-le}
 use Rattle.model.specs.Table.{Member, recordSize, membersOf}
 use Rattle.table.specs.Tests.{rightPending, rightFrom}
-use Rattle.laws.specs.Parts.{one-of, part-from, member-part}
+use Rattle.laws.specs.Parts.{one-of, part-from}
+use Rattle.laws.specs.Words.{member-part}
 use Rattle.table.proofs.Formed.{right-record, wrong-record}
 use borrow.Author.Needs.{needs}
 use Rattle.table.proofs.records_ok.Statement.{statement}
@@ -41,7 +42,7 @@ same-test : (c : tie.After-record-ok Inv-loop μ-loop) → let k = c .before .be
 same-test c =
     let l = c .before .before .before in
     let k = l .loop in
-    c .record-ok .ensures ∙ ap (λ (m : Member). leb (k .lo) (m .id) && rightPending (m .pending) (m .candidate)) (member-part (start l .args .r) (width l) (k .p .now) (l .before .width .ensures))
+    c .record-ok .ensures ∙ ap (λ (m : Member). leb (k .lo) (m .id) && rightPending (m .pending) (m .candidate)) (member-part (start l .args .r) (width l) (k .p .now) (l .before .width .ensures) (one-left (c .before .before)))
 
 cast-lo : tie.Need-cast-lo Inv-loop μ-loop
 cast-lo c = omega (arith, c .shared-slice-known2 .given 0)

@@ -5,7 +5,6 @@ use mathlib.Core.Bool.{Bool, true, false}
 use mathlib.Core.List.{List}
 use borrow.Author.Needs.{needs}
 use Rattle.model.specs.Lists.{if_then_else_}
-use Rattle.model.specs.Identifier.{space}
 use Rattle.model.specs.Table.{tableOf}
 use Rattle.model.specs.Steps.{stabilized}
 use Rattle.model.specs.Settle.{isDone, lastStep}
@@ -22,15 +21,15 @@ stabilize-at-requires : tie.Need-stabilize-at-requires
 stabilize-at-requires c κs = let s = c .before .before in (good-formed (s .pre .0), s .pre .1 .within)
 
 -- the words that the step leaves
-left : (c : tie.After-stabilize-at) → let a = start c .args in c .stabilize-at .last .0 ≡ written (stabilized space (a .n) (tableOf (a .t .now))) (a .t .now)
+left : (c : tie.After-stabilize-at) → let a = start c .args in c .stabilize-at .last .0 ≡ written (stabilized (a .n) (tableOf (a .t .now))) (a .t .now)
 left c = let s = start c in step-words (s .args .t .now) (good-formed (s .pre .0)) (s .args .k) (s .args .n) (s .pre .1) _ (c .stabilize-at .ensures .1)
 
 -- both cases of the answer
 abbrev Told : List ℕ → ℕ → Bool → List ℕ → Type 0
-Told ws n b us = (b ≡ isDone n (tableOf ws)) × (us ≡ written (if isDone n (tableOf ws) then lastStep space n (tableOf ws) else stabilized space n (tableOf ws)) ws)
+Told ws n b us = (b ≡ isDone n (tableOf ws)) × (us ≡ written (if isDone n (tableOf ws) then lastStep n (tableOf ws) else stabilized n (tableOf ws)) ws)
 
-told : (ws : List ℕ) (n : ℕ) (b : Bool) (us : List ℕ) → isDone n (tableOf ws) ≡ b → us ≡ written (if b then lastStep space n (tableOf ws) else stabilized space n (tableOf ws)) ws → Told ws n b us
-told ws n b us d e = (sym d, e ∙ ap (λ (c : Bool). written (if c then lastStep space n (tableOf ws) else stabilized space n (tableOf ws)) ws) (sym d))
+told : (ws : List ℕ) (n : ℕ) (b : Bool) (us : List ℕ) → isDone n (tableOf ws) ≡ b → us ≡ written (if b then lastStep n (tableOf ws) else stabilized n (tableOf ws)) ws → Told ws n b us
+told ws n b us d e = (sym d, e ∙ ap (λ (c : Bool). written (if c then lastStep n (tableOf ws) else stabilized n (tableOf ws)) ws) (sym d))
 
 returns : tie.Need-returns
 returns c =

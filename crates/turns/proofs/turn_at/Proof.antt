@@ -3,7 +3,6 @@ use mathlib.Core.Path.{_≡_, sym, ap, _∙_}
 use native.Mathlib.Omega.{arith}
 use lib.ListN.{getD}
 use borrow.Author.Needs.{needs}
-use Rattle.model.specs.Identifier.{space}
 use Rattle.model.specs.Table.{tableOf, membersIn, ids}
 use Rattle.model.specs.Settle.{afterTurn}
 use Rattle.model.specs.Calls.{written}
@@ -44,7 +43,7 @@ returns c =
     let p = u .before .before .before .before in
     let n = p .before .before in
     let s = start n in
-    turned (s .pre .0) (stands n) (p .finish-pending .ensures) (u .until-done .ensures) ∙ ap (λ x. written (afterTurn space x (tableOf (s .args .t .now))) (s .args .t .now)) (is-n n)
+    turned (s .pre .0) (stands n) (p .finish-pending .ensures) (u .until-done .ensures) ∙ ap (λ x. written (afterTurn x (tableOf (s .args .t .now))) (s .args .t .now)) (is-n n)
 
 pub turn-at-spec : {M : Type 1} → statement M
 turn-at-spec = tie.close (tie.spec word-at-requires finish-pending-requires until-done-requires (λ c. search needs) returns)

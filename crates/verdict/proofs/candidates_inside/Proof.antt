@@ -8,7 +8,8 @@ use borrow.Author.Needs.{needs}
 use Rattle.model.specs.Lists.{every}
 use Rattle.model.specs.Table.{recordSize, memberOf, membersOf}
 use Rattle.model.specs.Ring.{candidateInside}
-use Rattle.laws.specs.Parts.{part-from, one-fits, rest-fits, member-part}
+use Rattle.laws.specs.Parts.{part-from, one-fits, rest-fits}
+use Rattle.laws.specs.Words.{member-part}
 use Rattle.verdict.proofs.Records.{inside-here, inside-on}
 use Rattle.verdict.proofs.candidates_inside.Statement.{statement}
 use Rattle.verdict.proofs.candidates_inside.Tie as tie
@@ -39,7 +40,7 @@ same-test : (c : tie.After-candidate-inside Inv-loop μ-loop) → c .candidate-i
 same-test c =
     let i = c .before .before in
     let r = i .before .before .before .before .args .r in
-    c .candidate-inside .ensures r (search needs) ∙ ap candidateInside (member-part r _ (i .before .loop .p .now) (wide i))
+    c .candidate-inside .ensures r (search needs) ∙ ap candidateInside (member-part r _ (i .before .loop .p .now) (wide i) (one i))
 
 sub-p : tie.Need-sub-p Inv-loop μ-loop
 sub-p c = one (c .before .before .before)

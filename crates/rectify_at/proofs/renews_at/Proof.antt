@@ -7,8 +7,8 @@ use Rattle.model.specs.Identifier.{between}
 use Rattle.model.specs.Table.{Member, membersIn}
 use Rattle.model.specs.Ring.{nobody}
 use Rattle.model.specs.Steps.{renews}
-use Rattle.rectify.proofs.renews_at.Statement.{statement}
-use Rattle.rectify.proofs.renews_at.Tie as tie
+use Rattle.rectify_at.proofs.renews_at.Statement.{statement}
+use Rattle.rectify_at.proofs.renews_at.Tie as tie
 
 abbrev start : tie.After-between → tie.Start
 start c = c .before .before .before .before

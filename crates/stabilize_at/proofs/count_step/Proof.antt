@@ -9,8 +9,8 @@ use lib.ListN.{getD, set}
 use lib.Seq.{set-getD}
 use Rattle.model.specs.Table.{wordLimit}
 use Rattle.model.specs.Steps.{nextStep}
-use Rattle.stabilize.proofs.count_step.Statement.{statement}
-use Rattle.stabilize.proofs.count_step.Tie as tie
+use Rattle.stabilize_at.proofs.count_step.Statement.{statement}
+use Rattle.stabilize_at.proofs.count_step.Tie as tie
 
 counts : (s : ℕ) → s < 4294967295 → s + 1 ≡ nextStep s
 unfolding nextStep

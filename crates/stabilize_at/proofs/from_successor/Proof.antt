@@ -5,15 +5,15 @@ use borrow.Author.Tests.{ne-eqb}
 use borrow.Author.Needs.{needs}
 use lib.ListN.{getD}
 use lib.Seq.{getD-take}
-use Rattle.model.specs.Table.{membersIn}
+use Rattle.model.specs.Table.{spaceOf, tableOf, membersIn}
 use Rattle.model.specs.Ring.{live, named, successor, isPending}
 use Rattle.model.specs.Answer.{accepted}
 use Rattle.model.specs.Steps.{awaitCandidate}
 use Rattle.member.specs.View.{view}
 use Rattle.table.proofs.Place.{stands-live, stands-named}
-use Rattle.stabilize.proofs.Laws.{better, not-better, looks, is-done}
-use Rattle.stabilize.proofs.from_successor.Statement.{statement}
-use Rattle.stabilize.proofs.from_successor.Tie as tie
+use Rattle.stabilize_at.proofs.Laws.{better, not-better, looks, is-done}
+use Rattle.stabilize_at.proofs.from_successor.Statement.{statement}
+use Rattle.stabilize_at.proofs.from_successor.Tie as tie
 
 -- the entry that is read is the successor, nothing is pending, and the successor is a member
 head : (s : tie.Start) → getD (s .args .t2 .successors) 0 0 ≡ successor (view (getD (s .args .t .now) 0 0) (s .args .t2))
@@ -41,8 +41,8 @@ returns c =
     let w = view r (o .member-at .result) in
     let t = sym (b .between .ensures) ∙ c .before .if1 .taken in
     record {
-      leaves = c .await-candidate .ensures r ∙ ap (awaitCandidate (w .predecessor)) (a .adopt .ensures r (s .pre .0 .r-low) (s .pre .0 .r-high)) ∙ better ms v w _ (head s) (found o) (idle s) (alive s) t;
-      replies = ap accepted (looks ms v w _ (head s) (found o) (idle s) (alive s) t);
+      leaves = c .await-candidate .ensures r ∙ ap (awaitCandidate (w .predecessor)) (a .adopt .ensures r (s .pre .0 .r-low) (s .pre .0 .r-high)) ∙ better (spaceOf (tableOf (s .args .t .now))) ms v w _ (head s) (found o) (idle s) (alive s) t;
+      replies = ap accepted (looks (spaceOf (tableOf (s .args .t .now))) ms v w _ (head s) (found o) (idle s) (alive s) t);
     }
 
 returns-2 : tie.Need-returns-2
@@ -57,8 +57,8 @@ returns-2 c =
     let w = view r (o .member-at .result) in
     let t = sym (b .between .ensures) ∙ c .if1 .left in
     record {
-      leaves = a .adopt .ensures r (s .pre .0 .r-low) (s .pre .0 .r-high) ∙ not-better ms v w _ (head s) (found o) (idle s) (alive s) t;
-      replies = ap accepted (is-done ms v w _ (head s) (found o) (idle s) (alive s) t);
+      leaves = a .adopt .ensures r (s .pre .0 .r-low) (s .pre .0 .r-high) ∙ not-better (spaceOf (tableOf (s .args .t .now))) ms v w _ (head s) (found o) (idle s) (alive s) t;
+      replies = ap accepted (is-done (spaceOf (tableOf (s .args .t .now))) ms v w _ (head s) (found o) (idle s) (alive s) t);
     }
 
 pub from-successor-spec : {M : Type 1} → statement M

@@ -1,18 +1,20 @@
 -- `take_step` meets its contract. Assumes nothing.
+use Prim.Native.Nat.{ℕ}
 use mathlib.Core.Path.{sym, ap, _∙_}
 use borrow.Author.Tests.{ne-eqb}
 use borrow.Author.Needs.{needs}
 use lib.ListN.{getD}
 use lib.Seq.{getD-take}
-use Rattle.model.specs.Identifier.{space}
-use Rattle.model.specs.Table.{membersIn}
+use Rattle.model.specs.Table.{spaceOf, tableOf, membersIn}
 use Rattle.model.specs.Ring.{live}
 use Rattle.model.specs.Answer.{accepted}
 use Rattle.member.specs.View.{view}
+use Rattle.model.specs.Steps.{dropHead}
+use Rattle.laws.specs.Tables.{space-words}
 use Rattle.laws.specs.Stabilize.{step-dead, again}
 use Rattle.table.proofs.Place.{missing, here}
-use Rattle.stabilize.proofs.take_step.Statement.{statement}
-use Rattle.stabilize.proofs.take_step.Tie as tie
+use Rattle.stabilize_at.proofs.take_step.Statement.{statement}
+use Rattle.stabilize_at.proofs.take_step.Tie as tie
 
 returns-2 : tie.Need-returns-2
 returns-2 c =
@@ -26,7 +28,7 @@ returns-2 c =
     let idle = ne-eqb _ _ (i .if1 .left) in
     let dead = ap (live (membersIn ws)) (getD-take r (m .successors) 0 0 (s .pre .r-low)) ∙ missing ws (getD (m .successors) 0 0) _ (sym (e .enum-told .given .1) ∙ f .find .ensures) .0 in
     record {
-      leaves = c .drop-head .ensures ∙ step-dead (membersIn ws) (view r m) space idle dead;
+      leaves = c .drop-head .ensures ∙ ap (λ (w : ℕ). dropHead w (view r m)) (sym (space-words (tableOf ws))) ∙ step-dead (membersIn ws) (view r m) (spaceOf (tableOf ws)) idle dead;
       replies = ap accepted (again (membersIn ws) (view r m) idle dead);
     }
 

@@ -7,16 +7,16 @@ use borrow.Author.Tests.{eq-eqb}
 use borrow.Author.Needs.{needs}
 use lib.ListN.{getD}
 use lib.Seq.{getD-take}
-use Rattle.model.specs.Table.{membersIn}
+use Rattle.model.specs.Table.{spaceOf, tableOf, membersIn}
 use Rattle.model.specs.Ring.{isPending}
 use Rattle.model.specs.Answer.{accepted}
 use Rattle.model.specs.Steps.{clearPending}
 use Rattle.member.specs.View.{view}
 use Rattle.table.specs.Search.{Stands}
 use Rattle.table.proofs.Place.{missing, here, stands-live, stands-named}
-use Rattle.stabilize.proofs.Laws.{candidate-live, candidate-dead, done-candidate, done-successor}
-use Rattle.stabilize.proofs.from_predecessor.Statement.{statement}
-use Rattle.stabilize.proofs.from_predecessor.Tie as tie
+use Rattle.stabilize_at.proofs.Laws.{candidate-live, candidate-dead, done-candidate, done-successor}
+use Rattle.stabilize_at.proofs.from_predecessor.Statement.{statement}
+use Rattle.stabilize_at.proofs.from_predecessor.Tie as tie
 
 waiting : (s : tie.Start) → isPending (view (getD (s .args .t .now) 0 0) (s .args .t2)) ≡ true
 waiting s = eq-eqb _ _ (s .pre .1)
@@ -38,8 +38,8 @@ returns c =
     let dead = missing ws (m .candidate) _ (sym (e .enum-told .given .1) ∙ f .find .ensures) .0 in
     let head = sym (getD-take r (m .successors) 0 0 (s .pre .0 .r-low)) in
     record {
-      leaves = c .clear-pending .ensures r ∙ candidate-dead (membersIn ws) (view r m) (waiting s) dead;
-      replies = ap accepted (ap (λ (x : ℕ). 2 ∷ x ∷ []) head ∙ done-successor (membersIn ws) (view r m) (waiting s) dead);
+      leaves = c .clear-pending .ensures r ∙ candidate-dead (spaceOf (tableOf ws)) (membersIn ws) (view r m) (waiting s) dead;
+      replies = ap accepted (ap (λ (x : ℕ). 2 ∷ x ∷ []) head ∙ done-successor (spaceOf (tableOf ws)) (membersIn ws) (view r m) (waiting s) dead);
     }
 
 member-at-requires : tie.Need-member-at-requires
@@ -56,8 +56,8 @@ returns-2 c =
     let r = getD ws 0 0 in
     let live = stands-live (s .pre .0) (stands k) in
     record {
-      leaves = c .clear-pending2 .ensures r ∙ ap clearPending (a .adopt .ensures r (s .pre .0 .r-low) (s .pre .0 .r-high)) ∙ candidate-live (membersIn ws) (view r m) (waiting s) (view r (o .member-at .result)) (o .member-at .ensures ∙ stands-named (s .pre .0) (stands k)) live;
-      replies = ap accepted (done-candidate (membersIn ws) (view r m) (waiting s) live);
+      leaves = c .clear-pending2 .ensures r ∙ ap clearPending (a .adopt .ensures r (s .pre .0 .r-low) (s .pre .0 .r-high)) ∙ candidate-live (spaceOf (tableOf ws)) (membersIn ws) (view r m) (waiting s) (view r (o .member-at .result)) (o .member-at .ensures ∙ stands-named (s .pre .0) (stands k)) live;
+      replies = ap accepted (done-candidate (spaceOf (tableOf ws)) (membersIn ws) (view r m) (waiting s) live);
     }
 
 pub from-predecessor-spec : {M : Type 1} → statement M

@@ -1,0 +1,114 @@
+// One stabilize step of the member at a place, on a table known to be well-formed. For the crates above.
+ghost use mathlib.Core.Path.{_≡_};
+ghost use Prim.Native.Nat.{_≤_, _<_};
+ghost use lib.ListN.{length, getD, set};
+ghost use Rattle.model.specs.Table.{headerSize, membersIn, tableOf, ids};
+ghost use Rattle.model.specs.Ring.{named};
+ghost use Rattle.model.specs.Answer.{accepted};
+ghost use Rattle.model.specs.Steps.{stabilizeReply, nextStep, stabilized};
+ghost use Rattle.model.specs.Calls.{written};
+ghost use Rattle.table.specs.Formed.{Formed};
+ghost use Rattle.table.specs.Search.{Stands};
+ghost use Rattle.step.specs.Answers.{answerOf};
+ghost use Rattle.stabilize_at.specs.Turn.{Taken};
+use member::Member;
+use step::Step;
+use table::Search;
+
+// One step of a member.
+struct Turn {
+    // the record that it leaves
+    member: Member,
+    // what it replies
+    reply: Step,
+}
+
+// Pending 0, and the successor stands at place k: it is adopted, and its predecessor may be a better candidate.
+fn from_successor(t: &[u32], m: Member, k: usize) -> Turn
+    requires { ⌜ Formed (now t) ⌝ }
+    requires { ⌜ (m .pending ≡ 1 → ⊥) × Stands (now t) k (getD (m .successors) 0 0) ⌝ }
+    ensures { λ o. ⌜ Taken (now (t .entry)) m o ⌝ }
+{
+    let h = m.successors[0];
+    let s = table::member_at(t, k);
+    let l = s.successors;
+    let c = s.predecessor;
+    let a = m.adopt(h, l);
+    if ident::between(m.id, c, h) {
+        return Turn {
+            member: a.await_candidate(c),
+            reply: Step::Look(c),
+        };
+    }
+    Turn {
+        member: a,
+        reply: Step::Done(h),
+    }
+}
+
+// Pending 1: the candidate is adopted if it is a member, and nothing is pending any more.
+fn from_predecessor(t: &[u32], m: Member) -> Turn
+    requires { ⌜ Formed (now t) ⌝ }
+    requires { ⌜ m .pending ≡ 1 ⌝ }
+    ensures { λ o. ⌜ Taken (now (t .entry)) m o ⌝ }
+{
+    let c = m.candidate;
+    let Search::Here(k) = table::find(t, c) else {
+        let h = m.successors[0];
+        return Turn {
+            member: m.clear_pending(),
+            reply: Step::Done(h),
+        };
+    };
+    let s = table::member_at(t, k);
+    let l = s.successors;
+    let a = m.adopt(c, l);
+    Turn {
+        member: a.clear_pending(),
+        reply: Step::Done(c),
+    }
+}
+
+// The step of the member m.
+fn take_step(t: &[u32], m: Member) -> Turn
+    requires { ⌜ Formed (now t) ⌝ }
+    ensures { λ o. ⌜ Taken (now (t .entry)) m o ⌝ }
+{
+    if m.pending == 1 {
+        return from_predecessor(t, m);
+    }
+    let h = m.successors[0];
+    let Search::Here(k) = table::find(t, h) else {
+        let r = t[0] as usize;
+        return Turn {
+            member: m.drop_head(r),
+            reply: Step::Again,
+        };
+    };
+    from_successor(t, m, k)
+}
+
+// One more step is counted, up to the largest word.
+fn count_step(t: &mut [u32])
+    requires { ⌜ headerSize ≤ length (now t) ⌝ }
+    ensures { λ _. ⌜ now (t .exit) ≡ set (now (t .entry)) 2 (nextStep (getD (now (t .entry)) 2 0)) ⌝ }
+{
+    let s = t[2];
+    if s < 4294967295 {
+        t[2] = s + 1;
+    }
+}
+
+// One step of the member at place k.
+pub fn stabilize_at(t: &mut [u32], k: usize) -> Step
+    requires { ⌜ Formed (now t) ⌝ }
+    requires { ⌜ k < getD (now t) 1 0 ⌝ }
+    ensures { λ a. ⌜ (answerOf a ≡ accepted (stabilizeReply (membersIn (now (t .entry))) (named (membersIn (now (t .entry))) (getD (ids (membersIn (now (t .entry)))) k 0)))) × (now (t .exit) ≡ written (stabilized (getD (ids (membersIn (now (t .entry)))) k 0) (tableOf (now (t .entry)))) (now (t .entry))) ⌝ }
+{
+    let m = table::member_at(t, k);
+    let o = take_step(t, m);
+    let n = o.member;
+    records::replace_at(t, k, n);
+    count_step(t);
+    o.reply
+}
