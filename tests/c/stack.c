@@ -3,6 +3,7 @@
    numbers, and its deepest use is printed: 'ring_x BYTES', a line a call. tests/c/run holds the lines to the header's table. */
 
 #define _XOPEN_SOURCE 700
+#include "layout.h"
 #include "ring.h"
 #include <stdio.h>
 #include <stdlib.h>
@@ -161,14 +162,14 @@ static void settled(uint32_t of_r, size_t members, uint32_t gap)
     a = 0, run(SETTLE);
     a = 255, run(SETTLE);
     for (i = of_r + 2; i < members; i += 2) a = (uint32_t)i * gap, run(5);
-    table[RING_TABLE_WORDS(of_r, 0) + 2] = 1, table[RING_TABLE_WORDS(of_r, 0) + 3] = 1; /* pending, dead */
-    table[RING_TABLE_WORDS(of_r, 1) + 1] = 1;
+    set_pending(table, 0, 1, 1); /* its candidate dead */
+    record_at(table, 1)[RECORD_PREDECESSOR] = 1;
     run(ROUND);
     a = 0, run(SETTLE);
     a = 1, run(SETTLE);
     a = UINT32_MAX, run(SETTLE);
     run(ROUND);
-    for (i = 0; i < of_r; i++) table[RING_TABLE_WORDS(of_r, 0) + 4 + i] = 3;
+    for (i = 0; i < of_r; i++) record_at(table, 0)[RECORD_LIST + i] = 3;
     run(ROUND);
     run(SETTLE);
 }
@@ -180,7 +181,7 @@ static void every(uint32_t of_r, size_t members)
     const size_t field = RING_IMAGE_BYTES(of_r, 1) - RING_IMAGE_BYTES(of_r, 0);
     int c;
     on(of_r, 1, gap);
-    words = 3, on(of_r, members, gap);
+    words = TABLE_HEADER, on(of_r, members, gap);
     words = RING_TABLE_WORDS_MOST, on(of_r, members, gap);
     run(7);
     count = 256, run(8);
@@ -188,9 +189,9 @@ static void every(uint32_t of_r, size_t members)
     bytes = 0, run(11);
     bytes = sizeof image, run(11);
     bytes = RING_IMAGE_BYTES(of_r, members), run(12);
-    words = 3, run(12);
+    words = TABLE_HEADER, run(12);
     words = RING_TABLE_WORDS_MOST, run(9);
-    for (at = 0; at <= bytes; at += at == 0 ? 10 : field) run(13);
+    for (at = 0; at <= bytes; at += at == 0 ? IMAGE_MEMBERS : field) run(13);
     at = 1, run(13);
     bytes--, run(12);
     a = 0, b = last, run(6);
@@ -225,15 +226,15 @@ static void every(uint32_t of_r, size_t members)
     run(7);
     count = 256, run(8);
     on(of_r, members, gap);
-    table[RING_TABLE_WORDS(of_r, 0) + 4] = 2, a = 1, b = 0, run(1);                     /* 13: a dead first entry */
-    words = RING_TABLE_WORDS(of_r, members), run(1);                                    /* 13, without room too */
-    a = 3, run(1);                                                                      /* 4, though it is dead */
+    record_at(table, 0)[RECORD_LIST] = 2, a = 1, b = 0, run(1);                     /* 13: a dead first entry */
+    words = RING_TABLE_WORDS(of_r, members), run(1);                                /* 13, without room too */
+    a = 3, run(1);                                                                  /* 4, though it is dead */
     words = RING_TABLE_WORDS_MOST;
-    table[RING_TABLE_WORDS(of_r, members - 1) + 4] = 1, a = last + 1, b = last, run(1); /* 13, round the end */
+    record_at(table, members - 1)[RECORD_LIST] = 1, a = last + 1, b = last, run(1); /* 13, round the end */
     settled(of_r, members, gap);
     a = 10, b = 30, r = 20, count = 256, run(10);
     r = 40, count = 0, run(10);
-    table[0] = 9, count = 256, bytes = sizeof image, a = 0, b = 0;
+    table[TABLE_R] = 9, count = 256, bytes = sizeof image, a = 0, b = 0;
     for (c = 1; c <= 11; c++) run(c);
     run(PRINCIPAL), run(ROUND), run(SETTLE);
     count = KEYS, run(HELD);

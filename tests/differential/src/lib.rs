@@ -5,6 +5,7 @@ pub mod calls;
 pub mod compare;
 pub mod ffi;
 pub mod keys;
+pub mod layout;
 pub mod make;
 pub mod random;
 pub mod reference;

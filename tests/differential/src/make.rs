@@ -6,6 +6,7 @@ mod sound;
 pub use sound::{cut_off, slowest, sound, stale, stalest, Ring};
 
 use crate::compare::Piece;
+use crate::layout::{self, Raw, Record, COUNT, HEAD, HEADER, LENGTH, R, TAG};
 use crate::random::Random;
 
 /// Identifiers base, base + step, ... round the end, `width` of them.
@@ -44,79 +45,6 @@ impl Space {
             ids.insert(self.pick(random));
         }
         ids.into_iter().collect()
-    }
-}
-
-/// The parts of a table, which need not fit together.
-#[derive(Clone)]
-pub struct Raw {
-    pub r: u32,
-    pub count: u32,
-    pub steps: u32,
-    pub records: Vec<Record>,
-}
-
-#[derive(Clone)]
-pub struct Record {
-    pub id: u32,
-    pub predecessor: u32,
-    pub pending: u32,
-    pub candidate: u32,
-    pub list: Vec<u32>,
-}
-
-impl Raw {
-    /// The parts of a well-formed table.
-    pub fn of(words: &[u32]) -> Raw {
-        let (r, count) = (words[0], words[1]);
-        let records = words[3..]
-            .chunks_exact(r as usize + 4)
-            .take(count as usize)
-            .map(|w| Record {
-                id: w[0],
-                predecessor: w[1],
-                pending: w[2],
-                candidate: w[3],
-                list: w[4..].to_vec(),
-            })
-            .collect();
-        Raw { r, count, steps: words[2], records }
-    }
-
-    pub fn words(&self) -> Vec<u32> {
-        let mut words = vec![self.r, self.count, self.steps];
-        for record in &self.records {
-            words.extend([record.id, record.predecessor, record.pending, record.candidate]);
-            words.extend(&record.list);
-        }
-        words
-    }
-
-    /// The fields of the image, each with its tag and length bytes.
-    pub fn fields(&self) -> Vec<Vec<u8>> {
-        let mut head = vec![1, 0, 7, self.r as u8];
-        head.extend((self.count as u16).to_be_bytes());
-        head.extend(self.steps.to_be_bytes());
-        let mut fields = vec![head];
-        for record in &self.records {
-            let length = 13 + 4 * record.list.len() as u16;
-            let mut field = vec![2];
-            field.extend(length.to_be_bytes());
-            field.extend(record.id.to_be_bytes());
-            field.extend(record.predecessor.to_be_bytes());
-            field.push(record.pending as u8);
-            field.extend(record.candidate.to_be_bytes());
-            for entry in &record.list {
-                field.extend(entry.to_be_bytes());
-            }
-            fields.push(field);
-        }
-        fields.push(vec![3, 0, 0]);
-        fields
-    }
-
-    pub fn image(&self) -> Vec<u8> {
-        self.fields().concat()
     }
 }
 
@@ -228,14 +156,14 @@ pub fn well_formed(random: &mut Random, count: Option<usize>) -> Raw {
         };
         let pending = (style != 7 || groups == 1) && random.one_in(3);
         let candidate = match (pending, random.below(3)) {
-            (false, _) => 0,
-            (true, 0) => ids[i].wrapping_add(1),
-            (true, 1) => list[0].wrapping_sub(1),
-            (true, _) => random.pick(&pool),
+            (false, _) => None,
+            (true, 0) => Some(ids[i].wrapping_add(1)),
+            (true, 1) => Some(list[0].wrapping_sub(1)),
+            (true, _) => Some(random.pick(&pool)),
         };
-        records.push(Record { id: ids[i], predecessor, pending: pending as u32, candidate, list });
+        records.push(Record::new(ids[i], predecessor, candidate, list));
     }
-    Raw { r: r as u32, count: n as u32, steps: step_count(random), records }
+    Raw::new(r, step_count(random), records)
 }
 
 /// A table of few identifiers, so that most shapes come up.
@@ -253,17 +181,13 @@ pub fn tiny(random: &mut Random) -> (Raw, Vec<u32>) {
         .iter()
         .map(|&id| {
             let pending = random.one_in(3);
-            Record {
-                id,
-                predecessor: random.pick(&pool),
-                pending: pending as u32,
-                candidate: if pending { random.pick(&pool) } else { 0 },
-                list: (0..r).map(|_| random.pick(&pool)).collect(),
-            }
+            let predecessor = random.pick(&pool);
+            let candidate = pending.then(|| random.pick(&pool));
+            let list = (0..r).map(|_| random.pick(&pool)).collect();
+            Record::new(id, predecessor, candidate, list)
         })
         .collect();
-    let raw = Raw { r: r as u32, count: n as u32, steps: step_count(random), records };
-    (raw, pool)
+    (Raw::new(r, step_count(random), records), pool)
 }
 
 /// A slice for a well-formed table, with more or less room after it.
@@ -285,15 +209,15 @@ pub fn with_room(random: &mut Random, words: &[u32], width: usize) -> Piece<u32>
 pub fn malformed(random: &mut Random) -> Piece<u32> {
     let mut raw = well_formed(random, None);
     let n = raw.records.len();
-    let r = raw.r as usize;
+    let width = raw.width();
     match random.below(14) {
         // Random words.
         0 => {
             let count = random.below(60);
             let mut words = junk(random, count);
-            if words.len() > 2 && random.one_in(2) {
-                words[0] = random.below(10) as u32;
-                words[1] = random.below(8) as u32;
+            if words.len() >= HEADER && random.one_in(2) {
+                words[R] = random.below(10) as u32;
+                words[COUNT] = random.below(8) as u32;
             }
             let len = random.below(words.len() + 1);
             return Piece::cut(&words, len);
@@ -303,8 +227,8 @@ pub fn malformed(random: &mut Random) -> Piece<u32> {
         2 => raw.count = raw.count.saturating_sub(1),
         3 => raw.count = random.pick(&[257, 255, 256, 65536, u32::MAX, 0x8000_0000]),
         4 => raw.r = random.pick(&[0, 9, 10, u32::MAX, u32::MAX - 3, raw.r + 1, raw.r - 1]),
-        // 2^32 / (r + 4) members and more: the length comes round when multiplied.
-        5 => raw.count = (u32::MAX / (raw.r + 4)).wrapping_add(random.below(3) as u32),
+        // 2^32 / width members and more: the length comes round when multiplied.
+        5 => raw.count = (u32::MAX / width as u32).wrapping_add(random.below(3) as u32),
         // r = 0 or 9 with lists of that length.
         6 => {
             raw.r = random.pick(&[0, 9]);
@@ -336,26 +260,26 @@ pub fn malformed(random: &mut Random) -> Piece<u32> {
         _ => {
             let words = raw.words();
             let len = match random.below(3) {
-                0 => words.len() - random.range(1, 3),
-                1 => words.len().saturating_sub(random.range(r + 2, r + 6)),
+                0 => words.len() - random.range(1, HEADER),
+                1 => words.len().saturating_sub(random.range(width - 2, width + 2)),
                 _ => random.below(words.len() + 1),
             };
             return Piece::cut(&words, len);
         }
     }
     let words = raw.words();
-    with_room(random, &words, r + 4)
+    with_room(random, &words, width)
 }
 
 /// Identifiers worth calling with: what the words name, and neighbours.
 pub fn names(random: &mut Random, words: &[u32], count: usize) -> Vec<u32> {
     (0..count)
         .map(|_| {
-            if words.len() < 4 || random.one_in(12) {
+            if words.len() <= HEADER || random.one_in(12) {
                 let word = random.word();
                 return random.pick(&[0, 1, u32::MAX, word]);
             }
-            let name = words[random.range(3, words.len() - 1)];
+            let name = words[random.range(HEADER, words.len() - 1)];
             match random.below(6) {
                 0 => name.wrapping_add(1),
                 1 => name.wrapping_sub(1),
@@ -402,22 +326,23 @@ pub fn damaged(random: &mut Random, raw: &Raw) -> Vec<u8> {
     }
     let mut fields = raw.fields();
     let f = random.below(fields.len());
+    let low = LENGTH + 1;
     match random.below(30) {
-        0 => fields[f][0] = random.pick(&[0, 1, 2, 3, 4, 255]),
-        1 | 2 => fields[f][2] = fields[f][2].wrapping_add(1),
-        3 => fields[f][2] = fields[f][2].wrapping_sub(1),
-        4 => fields[f][1] = random.pick(&[1, 128, 255]),
+        0 => fields[f][TAG] = random.pick(&[0, 1, 2, 3, 4, 255]),
+        1 | 2 => fields[f][low] = fields[f][low].wrapping_add(1),
+        3 => fields[f][low] = fields[f][low].wrapping_sub(1),
+        4 => fields[f][LENGTH] = random.pick(&[1, 128, 255]),
         // Length and contents changed together.
         5 => {
-            fields[f][2] = fields[f][2].wrapping_add(1);
+            fields[f][low] = fields[f][low].wrapping_add(1);
             fields[f].push(0);
         }
-        6 if fields[f].len() > 3 => {
-            fields[f][2] = fields[f][2].wrapping_sub(1);
+        6 if fields[f].len() > HEAD => {
+            fields[f][low] = fields[f][low].wrapping_sub(1);
             fields[f].pop();
         }
         // The two length bytes, or two others, swapped.
-        7 => fields[f].swap(1, 2),
+        7 => fields[f].swap(LENGTH, low),
         8 => {
             let i = random.range(1, fields[f].len() - 1);
             fields[f].swap(i - 1, i);
@@ -435,7 +360,7 @@ pub fn damaged(random: &mut Random, raw: &Raw) -> Vec<u8> {
         13 => {
             fields[f].pop();
         }
-        14 => fields.push(vec![3, 0, 0]),
+        14 => fields.push(layout::head(layout::LAST, 0)),
         _ => {}
     }
     let mut image = fields.concat();

@@ -20,7 +20,8 @@ use principal::principal;
 use settle::{full_settling, settle_calls, settling};
 
 use crate::compare::{Compare, Element, Piece};
-use crate::make::{self, Raw, Space};
+use crate::layout::{self, Raw, COUNT, STEPS};
+use crate::make::{self, Space};
 use crate::random::{mix, Random};
 use crate::reference::{self, Finding};
 
@@ -153,7 +154,7 @@ fn all_calls(compare: &mut Compare, random: &mut Random, t: &Piece<u32>, amount:
     settle_calls(compare, random, t)?;
     compare.audit(t)?;
     compare.alike_itself(t)?;
-    let count = if well_formed { t.slice()[1] as usize } else { random.below(6) };
+    let count = if well_formed { t.slice()[COUNT] as usize } else { random.below(6) };
     for len in near(random, count) {
         let findings = filler::<Finding>(random, len + 2);
         compare.findings(t, &Piece::cut(&findings, len))?;
@@ -173,7 +174,7 @@ fn all_calls(compare: &mut Compare, random: &mut Random, t: &Piece<u32>, amount:
 fn tiny(compare: &mut Compare, random: &mut Random) -> Result {
     for _ in 0..4 {
         let (raw, pool) = make::tiny(random);
-        let t = make::with_room(random, &raw.words(), raw.r as usize + 4);
+        let t = make::with_room(random, &raw.words(), raw.width());
         for &n in &pool {
             compare.stabilize(&t, n)?;
             compare.fail(&t, n)?;
@@ -207,7 +208,7 @@ fn tiny(compare: &mut Compare, random: &mut Random) -> Result {
 fn broken(compare: &mut Compare, random: &mut Random) -> Result {
     for _ in 0..3 {
         let raw = make::well_formed(random, None);
-        let t = make::with_room(random, &raw.words(), raw.r as usize + 4);
+        let t = make::with_room(random, &raw.words(), raw.width());
         let amount = random.range(3, 10);
         all_calls(compare, random, &t, amount)?;
         // A member stabilizes several times in a row.
@@ -260,13 +261,13 @@ fn run_churn(compare: &mut Compare, random: &mut Random, sound: bool, length: us
     };
     let space = Space::any(random, n + 4);
     let ids = space.rising(random, n);
-    let width = r + 4;
+    let width = layout::width(r);
     let room = random.pick(&[0, 1, width, 2 * width + 1, 5 * width, 20 * width]);
-    let slice = make::junk(random, 3 + n * width + room);
+    let slice = make::junk(random, layout::size(r, n) + room);
     let made = compare.make(&Piece::whole(slice), r as u32, &Piece::whole(ids))?;
     let mut t = Piece::whole(made.first);
     if random.one_in(4) {
-        t.all[2] = u32::MAX - random.below(20) as u32;
+        t.all[STEPS] = u32::MAX - random.below(20) as u32;
     }
     let mut notices: Vec<(u32, u32)> = Vec::new();
     for _ in 0..length {
@@ -344,19 +345,18 @@ fn churn(compare: &mut Compare, random: &mut Random) -> Result {
 /// Tables with up to 256 members.
 fn full(compare: &mut Compare, random: &mut Random) -> Result {
     let r = random.pick(&[1, 2, 3, 8]);
-    let width = r as usize + 4;
     let n = random.range(251, 256);
     let space = Space::any(random, 300);
     let ids = space.rising(random, n);
     let records = random.pick(&[254, 255, 256, 256, 257, 258]).max(n);
     let spare = random.below(2);
-    let slice = make::junk(random, 3 + records * width + spare);
-    let made = compare.make(&Piece::whole(slice), r, &Piece::whole(ids))?;
+    let slice = make::junk(random, layout::size(r, records) + spare);
+    let made = compare.make(&Piece::whole(slice), r as u32, &Piece::whole(ids))?;
     let mut t = Piece::whole(made.first);
     // Joins until they are refused, then a little of everything.
     for _ in 0..12 {
         let j = space.pick(random);
-        let n = t.all[3];
+        let n = members(t.slice())[0];
         let found = compare.lookup(&t, n, j)?.answer;
         t = Piece::whole(compare.join(&t, j, found.values[1])?.first);
         compare.join(&t, j.wrapping_add(3), n)?;
@@ -387,14 +387,14 @@ fn full(compare: &mut Compare, random: &mut Random) -> Result {
     raw.count = raw.records.len() as u32;
     let more = Piece::whole(raw.image());
     read_image(compare, random, &more)?;
-    let t = make::with_room(random, &raw.words(), width);
+    let t = make::with_room(random, &raw.words(), raw.width());
     compare.audit(&t)?;
     compare.join(&t, 5, raw.records[3].id)?;
 
     // 255 to 258 records, well-formed but for that.
     let n = random.pick(&[255, 256, 257, 257, 258]);
     let mut raw = make::well_formed(random, Some(n));
-    let t = make::with_room(random, &raw.words(), raw.r as usize + 4);
+    let t = make::with_room(random, &raw.words(), raw.width());
     compare.audit(&t)?;
     for n in make::names(random, t.slice(), 2) {
         member_calls(compare, &t, n, n.wrapping_add(1))?;

@@ -1,16 +1,17 @@
 //! The rehearsal program over any side's calls.
 
 use crate::calls::Calls;
+use crate::layout::{Raw, LONGEST};
 use crate::reference::Answer;
 
 const MOST_BYTES: usize = 65_536;
-const TABLE_WORDS: usize = 3_075;
 
 /// The printed text for an input.
 pub fn run(input: &[u8], calls: &Calls) -> String {
     let input = &input[..input.len().min(MOST_BYTES)];
-    let mut table = vec![0; TABLE_WORDS];
-    table[0] = 1;
+    // No members, r is 1.
+    let mut table = Raw::new(1, 0, Vec::new()).words();
+    table.resize(LONGEST, 0);
     let mut printed = String::new();
     // A final line feed opens no further line.
     let text = input.strip_suffix(b"\n").unwrap_or(input);

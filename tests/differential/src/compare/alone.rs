@@ -7,10 +7,11 @@
 //! - r steps of p are enough to make its first entry a member, and then 13 no
 //!   longer declines a join by p.
 
-use super::join::{first_entry, is_member, joined, record, records};
+use super::join::{first_entry, is_member, joined};
 use super::lone::Lone;
 use super::shapes::Shapes;
 use super::{Compare, Result};
+use crate::layout::{self, record, records, CANDIDATE, COUNT, ID, LIST, PENDING, R};
 use crate::make::{self, Space};
 use crate::random::Random;
 use std::collections::{BTreeMap, BTreeSet};
@@ -65,8 +66,9 @@ impl Run<'_> {
             self.settled.insert(n);
         }
         let words = self.table.words();
-        let r = words[0];
-        let unseen = record(words, n).is_some_and(|m| m[2] == 1 && !is_member(words, m[3]));
+        let r = words[R];
+        let unseen =
+            record(words, n).is_some_and(|m| m[PENDING] == 1 && !is_member(words, m[CANDIDATE]));
         let said = self.table.accepted("stabilize", &[n], |c, t| (c.stabilize)(t, n))?[0];
         if said == 0 && self.settled.contains(&n) {
             let new = if self.joined.contains(&n) { "new " } else { "" };
@@ -132,10 +134,10 @@ impl Run<'_> {
         if self.join(j, p)? != 13 || random.one_in(4) {
             return Ok(());
         }
-        let pending = record(self.table.words(), p).is_some_and(|m| m[2] == 1);
+        let pending = record(self.table.words(), p).is_some_and(|m| m[PENDING] == 1);
         // r steps are enough: a pending one, and fewer agains than the list has
         // entries.
-        for _ in 0..self.table.words()[0] {
+        for _ in 0..self.table.words()[R] {
             if first_entry(self.table.words(), p).is_some_and(|(_, live)| live) {
                 break;
             }
@@ -170,7 +172,7 @@ impl Run<'_> {
     /// The table must be sound.
     fn sound(&mut self) -> Result<()> {
         let verdict = self.table.accepted("audit", &[], |c, t| (c.audit)(t))?[3];
-        if verdict == 0 || self.table.words()[1] == 0 {
+        if verdict == 0 || self.table.words()[COUNT] == 0 {
             return self.table.wrong("audit", "not sound".to_string());
         }
         Ok(())
@@ -181,7 +183,8 @@ impl Run<'_> {
         self.joined.clear();
         self.agains.clear();
         let words = self.table.words();
-        self.settled = records(words).filter(|m| is_member(words, m[4])).map(|m| m[0]).collect();
+        self.settled =
+            records(words).filter(|m| is_member(words, m[LIST])).map(|m| m[ID]).collect();
     }
 
     fn some_call(&mut self, random: &mut Random, space: Space) -> Result<()> {
@@ -191,7 +194,7 @@ impl Run<'_> {
             0..=2 => {
                 // Those behind a dead first entry more often than the others.
                 let words = self.table.words();
-                let behind = records(words).filter(|m| !is_member(words, m[4])).map(|m| m[0]);
+                let behind = records(words).filter(|m| !is_member(words, m[LIST])).map(|m| m[ID]);
                 let behind: Vec<u32> = behind.collect();
                 let p = match behind.is_empty() || random.one_in(2) {
                     true => n,
@@ -221,7 +224,7 @@ impl Compare {
         let space = Space::any(random, 3 * n);
         let ids = space.rising(random, n);
         let most = n + random.range(1, 12);
-        let words = make::junk(random, 3 + most * (r + 4));
+        let words = make::junk(random, layout::size(r, most));
         let table = Lone::new(self, random, words);
         let guards = table.outside();
         let mut run = Run {
@@ -236,7 +239,7 @@ impl Compare {
             // Neighbours, so that lists lose their fronts; sometimes those that a
             // member with a pending step stands before.
             let members = run.table.members();
-            let waiting = records(run.table.words()).filter(|m| m[2] == 1).map(|m| m[4]);
+            let waiting = records(run.table.words()).filter(|m| m[PENDING] == 1).map(|m| m[LIST]);
             let ahead = waiting.filter_map(|id| members.iter().position(|&known| known == id));
             let ahead: Vec<usize> = ahead.collect();
             let at = match ahead.is_empty() || random.one_in(2) {

@@ -1,9 +1,10 @@
 //! Finds: one call on both sides, and what a run must meet of the dead entries that they
 //! pass over, read off the words.
 
-use super::join::{is_member, record};
+use super::join::is_member;
 use super::shapes::Shapes;
 use super::{nothing, Compare, Outcome, Piece, Result};
+use crate::layout::{list, record, COUNT};
 use crate::reference::{self, Answer};
 use std::collections::BTreeSet;
 
@@ -85,7 +86,7 @@ fn walk(words: &[u32], n: u32, most: usize) -> Vec<Stood<'_>> {
     let mut walk = Vec::new();
     let mut at = record(words, n);
     while let Some(member) = at.filter(|_| walk.len() < most) {
-        let list = &member[4..];
+        let list = list(member);
         let passed = first_live(words, list);
         walk.push(Stood { list, passed });
         at = passed.and_then(|k| record(words, list[k]));
@@ -159,7 +160,7 @@ impl Finds {
             return;
         }
         let found = answer.number == 0;
-        let most = if found { answer.values[2] as usize + 1 } else { words[1] as usize };
+        let most = if found { answer.values[2] as usize + 1 } else { words[COUNT] as usize };
         let walk = walk(words, n, most);
         for stood in &walk {
             self.count_list(words, stood);
@@ -183,12 +184,12 @@ impl Finds {
         let between = several && passing > ends;
         let owner = found
             && record(words, answer.values[0])
-                .is_some_and(|owner| first_live(words, &owner[4..]) != Some(0));
-        let small = some && words[1] as usize <= MANY;
+                .is_some_and(|owner| first_live(words, list(owner)) != Some(0));
+        let small = some && words[COUNT] as usize <= MANY;
         let sound = small && reference::is_sound(words);
         let late =
             found && sum == 0 && stood.iter().any(|s| !s.list.iter().all(|&e| is_member(words, e)));
-        let ideal = one && sum == 0 && words[1] as usize <= MANY;
+        let ideal = one && sum == 0 && words[COUNT] as usize <= MANY;
         self.shapes.count([
             found && sum == 0 && one,
             found && sum == 0 && several,

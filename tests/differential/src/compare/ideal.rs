@@ -2,9 +2,10 @@
 //! what a run must meet of it: ideal tables, and those that one word keeps from that.
 //! A late entry is one after the first.
 
-use super::join::{is_member, records};
+use super::join::is_member;
 use super::shapes::Shapes;
 use super::{nothing, Compare, Outcome, Piece, Result};
+use crate::layout::{list, record_at, records, COUNT, ID, LIST, PENDING, PREDECESSOR, R};
 use crate::reference::{Answer, Finding};
 
 /// Each call counts for those that hold of its table and its verdict. Alone is what
@@ -77,22 +78,27 @@ struct Off {
     late: [(usize, usize); 2],
 }
 
+/// Have two records the same identifier, predecessor and list?
+pub fn same_order((a, b): (&[u32], &[u32])) -> bool {
+    [ID, PREDECESSOR].iter().all(|&word| a[word] == b[word]) && list(a) == list(b)
+}
+
 impl Off {
     /// Nothing if two predecessors or first entries differ, or one of each.
     fn of(words: &[u32]) -> Option<Off> {
         let mut off = Off::default();
-        let mut below = records(words).last().map_or(0, |m| m[0]);
+        let mut below = records(words).last().map_or(0, |m| m[ID]);
         let mut above = records(words);
         for (i, m) in records(words).enumerate() {
             above.next();
-            if m[1] != below {
+            if m[PREDECESSOR] != below {
                 off.predecessors += 1;
                 off.member = i;
             }
-            below = m[0];
+            below = m[ID];
             let ahead = above.clone().chain(records(words).cycle());
-            for (k, (&entry, due)) in m[4..].iter().zip(ahead).enumerate() {
-                if entry == due[0] {
+            for (k, (&entry, due)) in list(m).iter().zip(ahead).enumerate() {
+                if entry == due[ID] {
                     continue;
                 }
                 off.member = i;
@@ -159,7 +165,7 @@ impl Ideals {
     /// Counts a table by its verdict, which must be 2 where it is sound and nothing
     /// differs, and nowhere else.
     fn count(&mut self, words: &[u32], verdict: u32) -> std::result::Result<(), String> {
-        let (r, n) = (words[0] as usize, words[1] as usize);
+        let (r, n) = (words[R] as usize, words[COUNT] as usize);
         let off = Off::of(words);
         let ideal = off.as_ref().is_some_and(|off| off.all() == [0, 0, 0]);
         if verdict > 0 && ideal != (verdict == 2) {
@@ -170,8 +176,8 @@ impl Ideals {
             return Ok(());
         };
         let [zero, one, two] = [0, 1, 2].map(|of| verdict == of);
-        let width = r + 4;
-        let pending = |i: usize| words[3 + i * width + 2] == 1;
+        let word = |i: usize, at: usize| words[record_at(r, i) + at];
+        let pending = |i: usize| word(i, PENDING) == 1;
         let waiting = (0..n).filter(|&i| pending(i)).count();
         let few = n > 0 && n <= r;
 
@@ -179,15 +185,15 @@ impl Ideals {
         let full = n == 256;
         let alone = off.all() == [0, 0, 1];
         let (i, k) = off.late[0];
-        let word = |i: usize, k: usize| words[3 + i * width + 4 + k];
-        let own = alone && word(i, k) == words[3 + i * width];
-        let dead = alone && !is_member(words, word(i, k));
+        let entry = |i: usize, k: usize| word(i, LIST + k);
+        let own = alone && entry(i, k) == word(i, ID);
+        let dead = alone && !is_member(words, entry(i, k));
         let other = alone && !own && !dead;
         let last = k + 1 == r;
         let exchanged = off.all() == [0, 0, 2] && {
             let (j, l) = off.late[1];
-            let due = |k: usize| words[3 + (i + 1 + k) % n * width];
-            i == j && word(i, k) == due(l) && word(i, l) == due(k)
+            let due = |k: usize| word((i + 1 + k) % n, ID);
+            i == j && entry(i, k) == due(l) && entry(i, l) == due(k)
         };
         let stale = one && off.all() == [0, 0, off.lates] && off.lates > 1 && n <= MANY;
         let predecessor = one && off.all() == [1, 0, 0];
@@ -216,7 +222,7 @@ impl Ideals {
             one && alone && full && highest,
             one && alone && full && !lowest && !highest,
             one && alone && full && highest && last && r == 8,
-            stale && records(words).all(|m| m[4..].iter().all(|&e| is_member(words, e))),
+            stale && records(words).all(|m| list(m).iter().all(|&e| is_member(words, e))),
             one && off.all() == [0, 1, 0],
             predecessor && lowest,
             predecessor && highest,

@@ -3,6 +3,7 @@
 
 use super::shapes::Shapes;
 use super::{nothing, Compare, Outcome, Piece, Result};
+use crate::layout::{self, list, record, records, CANDIDATE, COUNT, ID, LIST, PENDING, R};
 use crate::reference::{self, Answer};
 
 /// Each call counts for those that hold of its table and its answer. An entry is
@@ -59,23 +60,13 @@ pub struct Joins {
     later: Shapes<{ LATER.len() }>,
 }
 
-/// The records of a well-formed table.
-pub fn records(words: &[u32]) -> impl Iterator<Item = &[u32]> + Clone {
-    words[3..].chunks_exact(words[0] as usize + 4).take(words[1] as usize)
-}
-
-/// The record of a member, if there is one of this identifier.
-pub fn record(words: &[u32], id: u32) -> Option<&[u32]> {
-    records(words).find(|record| record[0] == id)
-}
-
 pub fn is_member(words: &[u32], id: u32) -> bool {
     record(words, id).is_some()
 }
 
 /// The member p's first entry, and whether it is a member.
 pub fn first_entry(words: &[u32], p: u32) -> Option<(u32, bool)> {
-    record(words, p).map(|record| (record[4], is_member(words, record[4])))
+    record(words, p).map(|record| (record[LIST], is_member(words, record[LIST])))
 }
 
 /// What holds after an accepted join: the new member's first entry is p's, and is
@@ -109,22 +100,22 @@ impl Joins {
             return;
         }
         let by = record(words, p);
-        let (r, members) = (words[0] as usize, words[1] as usize);
-        let after = &words[3 + members * (r + 4)..];
-        let (full, short) = (members == 256, after.len() < r + 4);
+        let (r, members) = (words[R] as usize, words[COUNT] as usize);
+        let after = layout::rest(words);
+        let (full, short) = (members == 256, after.len() < layout::width(r));
         let (lowest, highest) = (records(words).next(), records(words).last());
-        let (lowest, highest) = (lowest.map_or(0, |m| m[0]), highest.map_or(0, |m| m[0]));
+        let (lowest, highest) = (lowest.map_or(0, |m| m[ID]), highest.map_or(0, |m| m[ID]));
 
-        let entry = by.map_or(0, |by| by[4]);
+        let entry = by.map_or(0, |by| by[LIST]);
         let live = is_member(words, entry);
-        let later = by.map_or(&[][..], |by| &by[5..]);
+        let later = by.map_or(&[][..], |by| &list(by)[1..]);
         let dead = by.is_some() && !live;
         let (accepted, thirteen) = (number == 0, number == 13);
         let (four, five) = (number == 4 && dead, number == 5);
         let beside = [entry.wrapping_add(1), entry.wrapping_sub(1)];
         let known = thirteen && members <= MANY;
         let sound = known && reference::is_sound(words);
-        let next = records(words).map(|m| m[0]).find(|&id| id > p).unwrap_or(lowest);
+        let next = records(words).map(|m| m[ID]).find(|&id| id > p).unwrap_or(lowest);
         self.shapes.count([
             known && sound,
             known && !sound,
@@ -137,7 +128,7 @@ impl Joins {
             thirteen && full && short && r == 8,
             thirteen && later.iter().any(|&e| is_member(words, e)),
             thirteen && !later.iter().any(|&e| is_member(words, e)),
-            thirteen && by.is_some_and(|by| by[2] == 1 && is_member(words, by[3])),
+            thirteen && by.is_some_and(|by| by[PENDING] == 1 && is_member(words, by[CANDIDATE])),
             thirteen && after.first() == Some(&entry),
             thirteen && entry <= p,
             thirteen && beside.iter().any(|&id| is_member(words, id)),
@@ -150,7 +141,7 @@ impl Joins {
             four && short,
             number == 2 && dead,
             number == 2 && by.is_none(),
-            number == 3 && records(words).any(|m| m[4] == p),
+            number == 3 && records(words).any(|m| m[LIST] == p),
             five && full && !short,
             five && !full && short,
             five && full && short,
@@ -186,11 +177,11 @@ impl Compare {
         if self.join(table, j, p)?.answer.number != 13 {
             return Ok(());
         }
-        let pending = record(table.slice(), p).is_some_and(|by| by[2] == 1);
+        let pending = record(table.slice(), p).is_some_and(|by| by[PENDING] == 1);
         let mut t = table.clone();
         let mut agains = 0;
         // One more than the list has entries; those appended may be dead too.
-        for _ in 0..=t.all[0] {
+        for _ in 0..=t.all[R] {
             let step = self.stabilize(&t, p)?;
             t.all[..t.len].copy_from_slice(&step.first);
             if step.answer.values[0] != 0 {

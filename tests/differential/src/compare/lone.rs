@@ -1,9 +1,9 @@
 //! A table between guards that the library alone is called on. The reference makes
 //! no call; what must hold is read off the words that the library left.
 
-use super::join::records;
 use super::{place, watched, Compare, Lent, Piece, Result};
 use crate::calls::Calls;
+use crate::layout::{records, ID};
 use crate::random::Random;
 use crate::reference::Answer;
 
@@ -46,7 +46,7 @@ impl Lone {
     }
 
     pub fn members(&self) -> Vec<u32> {
-        records(self.words()).map(|m| m[0]).collect()
+        records(self.words()).map(|m| m[ID]).collect()
     }
 
     pub fn wrong<T>(&self, name: &str, what: String) -> Result<T> {

@@ -10,11 +10,11 @@
 //! - Where the audit's verdict is 2, all of these are 0.
 
 use super::find::first_live;
-use super::join::record;
 use super::lone::Lone;
 use super::shapes::Shapes;
 use super::{Compare, Result};
-use crate::make::{self, Raw};
+use crate::layout::{self, record, Raw, R};
+use crate::make;
 use crate::random::Random;
 use crate::reference::Answer;
 use std::collections::BTreeMap;
@@ -72,7 +72,7 @@ fn find(table: &mut Lone, n: u32, k: u32, due: Answer) -> Result<()> {
 pub fn searches(table: &mut Lone) -> Result<BTreeMap<u32, Search>> {
     let mut all = BTreeMap::new();
     for n in table.members() {
-        let list = record(table.words(), n).map_or(vec![], |own| own[4..].to_vec());
+        let list = record(table.words(), n).map_or(vec![], |own| layout::list(own).to_vec());
         let search = first_live(table.words(), &list).map(|k| (list[k], k as u32));
         let due = match search {
             Some((b, passed)) => Answer { number: 0, values: [b, n, 0, passed], count: 4 },
@@ -229,7 +229,7 @@ impl Passed {
         if !table.equals(&before) {
             return before.wrong("lookup or audit", "a word is written".to_string());
         }
-        let (r, verdict, due) = (table.words()[0], audit.values[3], sum(&searches));
+        let (r, verdict, due) = (table.words()[R], audit.values[3], sum(&searches));
         if verdict == 2 && due > 0 {
             return before.wrong("lookup", format!("verdict 2, and {due} are passed over"));
         }
@@ -280,10 +280,9 @@ impl Compare {
             if number == 4 {
                 make::cut_off(random, &mut raw);
             }
-            let width = raw.r as usize + 4;
-            let piece = make::with_room(random, &raw.words(), width);
+            let piece = make::with_room(random, &raw.words(), raw.width());
             let words = match random.one_in(40) {
-                true => piece.all[..3 + raw.records.len() * width - 1].to_vec(),
+                true => piece.all[..raw.words().len() - 1].to_vec(),
                 false => piece.all,
             };
             let table = Lone::new(self, random, words);

@@ -4,6 +4,7 @@
 
 use super::shapes::Shapes;
 use super::{nothing, place, watched, Compare, Lent, Outcome, Piece, Result};
+use crate::layout::{self, COUNT, R};
 use crate::reference::Answer;
 
 /// Each call counts for those that hold of its table and its answer.
@@ -65,7 +66,7 @@ impl Principals {
 
     fn count(&mut self, table: &Piece<u32>, n: u32, answer: &Answer) {
         let words = table.slice();
-        let [r, members, ..] = *words else {
+        let (Some(&r), Some(&members)) = (words.get(R), words.get(COUNT)) else {
             return;
         };
         let (accepted, refused) = (answer.number == 0, answer.number == 3);
@@ -75,7 +76,8 @@ impl Principals {
         let last = skipped && taken == members * r;
         let full = |of: u32| members == 256 && r == of;
         let cut = answer.number == 1 && r <= 8 && members <= 256;
-        let needed = if accepted || cut { 3 + members as usize * (r as usize + 4) } else { 0 };
+        let known = accepted || cut;
+        let needed = if known { layout::size(r as usize, members as usize) } else { 0 };
         self.shapes.count([
             principal,
             skipped && taken == 1,
@@ -120,7 +122,7 @@ impl Compare {
             return Ok(());
         }
         let words = table.slice();
-        let (r, members) = (words[0], words[1]);
+        let (r, members) = (words[R], words[COUNT]);
         let wrong = |words: &[u32], what: String| {
             format!("DIFFERENCE in principal, {what}\n  table {words:?}\n")
         };

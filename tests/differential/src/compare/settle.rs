@@ -2,9 +2,11 @@
 //! the words before and after.
 
 use super::find::first_live;
-use super::join::{is_member, records};
+use super::ideal::same_order;
+use super::join::is_member;
 use super::shapes::Shapes;
 use super::{nothing, Compare, Outcome, Piece, Result};
+use crate::layout::{list, records, CANDIDATE, COUNT, ID, LIST, PENDING, R, STEPS};
 use crate::reference::{self, Answer};
 
 /// Each call counts for those that hold of its table, its limit and its answer. What
@@ -74,10 +76,10 @@ pub struct Settles {
 
 /// What a table lacks to be sound: live entries, principals, candidates inside.
 fn lacks(words: &[u32]) -> [bool; 3] {
-    let live = records(words).all(|m| m[4..].iter().any(|&e| is_member(words, e)));
+    let live = records(words).all(|m| list(m).iter().any(|&e| is_member(words, e)));
     let principals = reference::audit(words).values[1];
-    let inside = |m: &[u32]| m[2] == 0 || reference::between(m[0], m[3], m[4]);
-    [!live, principals <= words[0], !records(words).all(inside)]
+    let inside = |m: &[u32]| m[PENDING] == 0 || reference::between(m[ID], m[CANDIDATE], m[LIST]);
+    [!live, principals <= words[R], !records(words).all(inside)]
 }
 
 impl Settles {
@@ -96,19 +98,19 @@ impl Settles {
     /// Counts an accepted settle by what its members pass over.
     fn count_passed(&mut self, table: &[u32], limit: u32, [ran, verdict, ..]: [u32; 4]) {
         let firsts: Vec<(&[u32], usize)> =
-            records(table).map(|m| (m, first_live(table, &m[4..]).unwrap_or(0))).collect();
+            records(table).map(|m| (m, first_live(table, list(m)).unwrap_or(0))).collect();
         let each = || firsts.iter().map(|first| first.1);
-        let (n, r) = (firsts.len(), table[0] as usize);
+        let (n, r) = (firsts.len(), table[R] as usize);
         let sum: usize = each().sum();
         let passing = each().filter(|&count| count > 0).count();
         let some = sum > 0;
         let late = |&(m, first): &(&[u32], usize)| {
-            m[4 + first..].iter().any(|&entry| !is_member(table, entry))
+            list(m)[first..].iter().any(|&entry| !is_member(table, entry))
         };
         let late = ran > 0 && n <= MANY && firsts.iter().any(late);
-        let named = |id: u32| firsts.iter().any(|&(m, first)| m[4 + first] == id);
-        let pending = firsts.iter().any(|&(m, first)| first > 0 && m[2] == 1);
-        let unnamed = firsts.iter().any(|&(m, first)| first > 0 && !named(m[0]));
+        let named = |id: u32| firsts.iter().any(|&(m, first)| list(m)[first] == id);
+        let pending = firsts.iter().any(|&(m, first)| first > 0 && m[PENDING] == 1);
+        let unnamed = firsts.iter().any(|&(m, first)| first > 0 && !named(m[ID]));
         self.passed.count([
             limit == 0 && some,
             limit == 0 && verdict == 1 && !some,
@@ -139,19 +141,18 @@ impl Settles {
             }
             return;
         }
-        let (r, members) = (table[0], table[1]);
+        let (r, members) = (table[R], table[COUNT]);
         let full = members == 256;
         let fourteen = number == 14;
         let known = fourteen && (1..=MANY as u32).contains(&members);
         let lacks = if known { lacks(table) } else { [false; 3] };
         let as_new = known && {
             let mut new = table.to_vec();
-            let ids: Vec<u32> = records(table).map(|m| m[0]).collect();
+            let ids: Vec<u32> = records(table).map(|m| m[ID]).collect();
             let made = reference::new(&mut new, r, &ids).number == 0;
-            let same = |(a, b): (&[u32], &[u32])| a[..2] == b[..2] && a[4..] == b[4..];
-            made && records(table).zip(records(&new)).all(same)
+            made && records(table).zip(records(&new)).all(same_order)
         };
-        let pending = records(table).any(|m| m[2] == 1);
+        let pending = records(table).any(|m| m[PENDING] == 1);
         let round = number == 0 && limit.is_none();
         let settle = number == 0 && limit.is_some();
         let given = limit.unwrap_or(0);
@@ -180,8 +181,8 @@ impl Settles {
             round && !ideal && verdict == 1,
             round && !ideal && verdict == 2,
             round && full,
-            round && table[2] < u32::MAX && after[2] == u32::MAX,
-            round && table[2] == u32::MAX && after[2] == u32::MAX,
+            round && table[STEPS] < u32::MAX && after[STEPS] == u32::MAX,
+            round && table[STEPS] == u32::MAX && after[STEPS] == u32::MAX,
             settle && ideal && given > 0,
             settle && ideal && given > 0 && pending,
             settle && none && verdict == 1,

@@ -6,14 +6,15 @@
 //!   its third number is what all members pass over before the first, as finds tell it.
 //! - The limit s - 1 brings verdict 2, in at most s - P + r rounds.
 //! - After s - P + r rounds the verdict is 2, nothing is pending, and a round more changes
-//!   word 2 only, by one step a member.
+//!   the step count only, by one step a member.
 //! - Where the audit is declined by 1 both are, where its verdict is 0 both are declined by
 //!   14; that writes nothing.
 
-use super::join::{is_member, record, records};
+use super::join::is_member;
 use super::lone::Lone;
 use super::shapes::Shapes;
 use super::{passed, Compare, Result};
+use crate::layout::{record, records, CANDIDATE, COUNT, LIST, PENDING, PREDECESSOR, R, STEPS};
 use crate::make;
 use crate::random::Random;
 use crate::reference::Answer;
@@ -72,11 +73,11 @@ impl Turns {
     fn turn(&mut self, table: &mut Lone, n: u32) -> Result<()> {
         let own = record(table.words(), n).expect("a member").to_vec();
         let live = |table: &Lone, id: u32| is_member(table.words(), id);
-        let pending = own[2] == 1;
+        let pending = own[PENDING] == 1;
         let mut first_new = false;
         if pending {
-            let candidate = live(table, own[3]);
-            let lost = !candidate && !live(table, own[4]);
+            let candidate = live(table, own[CANDIDATE]);
+            let lost = !candidate && !live(table, own[LIST]);
             let said = table.accepted("stabilize", &[n], |c, t| (c.stabilize)(t, n))?;
             if said[0] != 2 {
                 return table.wrong("stabilize", format!("{n} finishes a step by {said:?}"));
@@ -89,7 +90,7 @@ impl Turns {
                 (first_new, "a pending step, its notice is new"),
             ]);
         }
-        let r = table.words()[0];
+        let r = table.words()[R];
         let (mut agains, mut look) = (0, None);
         for step in 1..=r + 1 {
             let said = table.accepted("stabilize", &[n], |c, t| (c.stabilize)(t, n))?;
@@ -97,7 +98,7 @@ impl Turns {
                 0 => agains += 1,
                 1 => look = Some(live(table, said[1])),
                 _ => {
-                    let h = record(table.words(), said[1]).map_or(0, |h| h[1]);
+                    let h = record(table.words(), said[1]).map_or(0, |h| h[PREDECESSOR]);
                     let dead = !live(table, h);
                     let new = notice(table, said[1], n)?;
                     // The first notice that is new leaves nothing for the last.
@@ -133,7 +134,7 @@ impl Turns {
         enough: u32,
     ) -> Result<Vec<(Lone, u32)>> {
         let mut table = start.clone();
-        let (members, full) = (table.members(), table.words()[1] > 40);
+        let (members, full) = (table.members(), table.words()[COUNT] > 40);
         let mut states = vec![(start.clone(), verdict(&mut table)?)];
         for number in 0..=enough {
             let before = table.clone();
@@ -154,12 +155,12 @@ impl Turns {
                 }
                 self.rounds += 1;
             }
-            let stops = before.words()[2] < u32::MAX && table.words()[2] == u32::MAX;
+            let stops = before.words()[STEPS] < u32::MAX && table.words()[STEPS] == u32::MAX;
             self.shapes.meet_each(&[(stops, "a step count that stops")]);
             if number == enough {
                 let mut due = before.words().to_vec();
-                due[2] = due[2].saturating_add(members.len() as u32);
-                if table.words() != due || records(&due).any(|m| m[2] == 1) {
+                due[STEPS] = due[STEPS].saturating_add(members.len() as u32);
+                if table.words() != due || records(&due).any(|m| m[PENDING] == 1) {
                     let what = format!("round {} changes more than the count", enough + 1);
                     return before.wrong("round", what);
                 }
@@ -198,7 +199,7 @@ impl Turns {
     /// All that must hold of a sound table.
     fn sound(&mut self, random: &mut Random, start: Lone, audit: [u32; 4]) -> Result<()> {
         let [s, principals, _, verdict] = audit;
-        let r = start.words()[0];
+        let r = start.words()[R];
         let enough = s - principals + r;
         if enough > s - 1 {
             return start.wrong("audit", format!("{audit:?}, and r is {r}"));
@@ -227,7 +228,7 @@ impl Turns {
         for limit in limits {
             self.settling(&start, limit, &states, passed)?;
         }
-        let pending = records(start.words()).any(|m| m[2] == 1);
+        let pending = records(start.words()).any(|m| m[PENDING] == 1);
         self.shapes.meet_each(&[
             (ran == s - 1, "s - 1 rounds"),
             (ran == enough && ran < s - 1, "s - P + r rounds, fewer than s - 1"),
@@ -302,7 +303,7 @@ impl Compare {
             false if !full && random.one_in(8) => make::stalest(random, r, n),
             false => make::sound(random, r, n),
         };
-        let table = make::with_room(random, &raw.words(), r + 4);
+        let table = make::with_room(random, &raw.words(), raw.width());
         self.turns_of(random, table.all)?;
         if full {
             return Ok(());
@@ -317,8 +318,7 @@ impl Compare {
             4 => raw = make::well_formed(random, None),
             _ => raw = make::tiny(random).0,
         }
-        let width = raw.r as usize + 4;
-        let table = make::with_room(random, &raw.words(), width);
+        let table = make::with_room(random, &raw.words(), raw.width());
         self.turns_of(random, table.all)
     }
 }

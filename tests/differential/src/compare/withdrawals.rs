@@ -9,10 +9,12 @@
 //! - The table stays sound, its other records and words stay, and a refusal writes
 //!   nothing.
 
-use super::join::{first_entry, is_member, records};
+use super::ideal::same_order;
+use super::join::{first_entry, is_member};
 use super::lone::Lone;
 use super::shapes::Shapes;
 use super::{place, watched, Compare, Result};
+use crate::layout::{self, records, COUNT, HEADER, ID, PENDING, R};
 use crate::make::{self, Space};
 use crate::random::Random;
 
@@ -63,11 +65,11 @@ impl Withdrawals {
 
 /// The words of a table without the record of x, as a withdrawal leaves them.
 fn without(words: &[u32], x: u32) -> Vec<u32> {
-    let width = words[0] as usize + 4;
-    let mut left = vec![words[0], words[1] - 1, words[2]];
-    records(words).filter(|m| m[0] != x).for_each(|m| left.extend(m));
-    left.extend(vec![0; width]);
-    left.extend(&words[3 + words[1] as usize * width..]);
+    let mut left = words[..HEADER].to_vec();
+    left[COUNT] -= 1;
+    records(words).filter(|m| m[ID] != x).for_each(|m| left.extend(m));
+    left.extend(vec![0; layout::width(words[R] as usize)]);
+    left.extend(layout::rest(words));
     left
 }
 
@@ -83,19 +85,18 @@ impl Run<'_> {
         let words = self.table.words();
         let mut new = vec![0; words.len()];
         let ids = self.table.members();
-        let made = watched(place("new"), || (self.table.calls.new)(&mut new, words[0], &ids));
+        let made = watched(place("new"), || (self.table.calls.new)(&mut new, words[R], &ids));
         if made.number != 0 {
             return self.table.wrong("new", format!("of these members is given {made:?}"));
         }
-        let same = |(a, b): (&[u32], &[u32])| a[..2] == b[..2] && a[4..] == b[4..];
-        let all = records(words).zip(records(&new)).all(same);
+        let all = records(words).zip(records(&new)).all(same_order);
         Ok(all)
     }
 
     /// The verdict, which is never 0.
     fn verdict(&mut self) -> Result<u32> {
         let [members, .., verdict] = self.table.accepted("audit", &[], |c, t| (c.audit)(t))?;
-        let sound = (1..=2).contains(&verdict) && members == self.table.words()[1];
+        let sound = (1..=2).contains(&verdict) && members == self.table.words()[COUNT];
         if !sound || self.is_as_new()? != (verdict == 2) {
             return self.table.wrong("audit", format!("{members} members, verdict {verdict}"));
         }
@@ -155,7 +156,7 @@ impl Run<'_> {
     /// Passes from the highest member to the lowest, each with a few steps, and the
     /// notices after each pass in any order; up to verdict 2, which need not come.
     fn settle_late(&mut self, random: &mut Random) -> Result<u32> {
-        let most = self.table.words()[0] as usize + 2;
+        let most = self.table.words()[R] as usize + 2;
         for _ in 0..random.below(6) {
             let mut notices = Vec::new();
             for &n in self.table.members().iter().rev() {
@@ -181,7 +182,7 @@ impl Run<'_> {
     fn settle(&mut self) -> Result<()> {
         let ideal = self.verdict()? == 2;
         let [members, principals, ..] = self.table.accepted("audit", &[], |c, t| (c.audit)(t))?;
-        let enough = members - principals + self.table.words()[0];
+        let enough = members - principals + self.table.words()[R];
         let told = self.table.accepted("settle", &[enough], |c, t| (c.settle)(t, enough))?;
         if (told[0] == 0) != ideal || told[1] != 2 || self.verdict()? != 2 {
             return self.table.wrong("settle", format!("{enough} rounds are given {told:?}"));
@@ -195,7 +196,7 @@ impl Run<'_> {
     /// Withdrawals from a table with verdict 2, in this order. Gives how many were tried.
     fn withdraw(&mut self, order: &[u32]) -> Result<u64> {
         let ring = self.table.members();
-        let (r, m) = (self.table.words()[0] as usize, ring.len());
+        let (r, m) = (self.table.words()[R] as usize, ring.len());
         let promised = (r - 1).min(m - r - 1);
         let mut gone = vec![false; m];
         let mut granted = 0;
@@ -237,7 +238,7 @@ impl Run<'_> {
     }
 
     fn refused(&mut self, number: u32, few: bool, granted: usize, m: usize) {
-        let r = self.table.words()[0] as usize;
+        let r = self.table.words()[R] as usize;
         let (six, seven) = (number == 6, number == 7);
         let last = seven && granted > 0;
         for (hold, name) in [
@@ -255,7 +256,7 @@ impl Run<'_> {
     }
 
     fn granted(&mut self, gone: &[bool], granted: usize, promised: usize) {
-        let (r, m) = (self.table.words()[0] as usize, gone.len());
+        let (r, m) = (self.table.words()[R] as usize, gone.len());
         // All that went, from the place after one that did not.
         let neighbours =
             granted > 1 && (0..m).any(|p| !gone[p] && (1..=granted).all(|k| gone[(p + k) % m]));
@@ -311,8 +312,8 @@ impl Compare {
             _ => r + 1 + random.below(16),
         };
         let ids = Space::any(random, 3 * n).rising(random, n);
-        let room = if full { 0 } else { random.below(6) * (r + 4) + random.below(3) };
-        let words = make::junk(random, 3 + n * (r + 4) + room);
+        let room = if full { 0 } else { random.below(6) * layout::width(r) + random.below(3) };
+        let words = make::junk(random, layout::size(r, n) + room);
         let table = Lone::new(self, random, words);
         let guards = table.outside();
         let mut run = Run { shapes: &mut self.withdrawals.shapes, table };
@@ -334,7 +335,7 @@ impl Compare {
         if full {
             run.shapes.meet("256 members");
         }
-        if records(run.table.words()).any(|m| m[2] == 1) {
+        if records(run.table.words()).any(|m| m[PENDING] == 1) {
             run.shapes.meet("a pending step");
         }
         let ways = if full { 2 } else { 5 };

@@ -1,6 +1,7 @@
 //! Sound tables, ideal ones and ones far from it.
 
-use super::{step_count, Raw, Record, Space};
+use super::{step_count, Space};
+use crate::layout::{Raw, Record};
 use crate::random::Random;
 
 /// Members, and for each an identifier after it and before the next member.
@@ -34,15 +35,9 @@ impl Ring {
     /// The ideal table, nothing pending.
     pub fn table(&self, random: &mut Random, r: usize) -> Raw {
         let n = self.ids.len();
-        let record = |i: usize| Record {
-            id: self.id(i),
-            predecessor: self.id(i + n - 1),
-            pending: 0,
-            candidate: 0,
-            list: (1..=r).map(|k| self.id(i + k)).collect(),
-        };
-        let records = (0..n).map(record).collect();
-        Raw { r: r as u32, count: n as u32, steps: random.word(), records }
+        let list = |i: usize| (1..=r).map(|k| self.id(i + k)).collect();
+        let record = |i: usize| Record::new(self.id(i), self.id(i + n - 1), None, list(i));
+        Raw::new(r, random.word(), (0..n).map(record).collect())
     }
 
     /// Some members are made pending, with candidates between them and the next one.
@@ -155,15 +150,9 @@ fn after_losses(random: &mut Random, r: usize, n: usize, most: usize) -> Raw {
         })
         .collect();
     places.sort();
-    let record = |&i: &usize| Record {
-        id: ids[i],
-        predecessor: ids[(i + all - 1) % all],
-        pending: 0,
-        candidate: 0,
-        list: (1..=r).map(|k| ids[(i + k) % all]).collect(),
-    };
-    let records = places.iter().map(record).collect();
-    Raw { r: r as u32, count: n as u32, steps: 0, records }
+    let list = |i: usize| (1..=r).map(|k| ids[(i + k) % all]).collect();
+    let record = |&i: &usize| Record::new(ids[i], ids[(i + all - 1) % all], None, list(i));
+    Raw::new(r, 0, places.iter().map(record).collect())
 }
 
 /// A table on which members - 1 rounds are needed.
@@ -203,20 +192,18 @@ fn stale_by(random: &mut Random, r: usize, n: usize, styles: &[Option<usize>]) -
     let all = Space::any(random, 8 * n).rising(random, 8 * n);
     let first = random.below(8);
     let slot = |at: usize| all[(first + at) % (8 * n)];
-    let mut raw = Raw { r: r as u32, count: n as u32, steps: step_count(random), records: vec![] };
+    let steps = step_count(random);
+    let mut records = Vec::with_capacity(n);
     for (i, style) in styles.iter().enumerate() {
         let slots = match style {
             Some(style) => stale_list(random, r, *style),
             None => (1..=r).map(|k| 8 * k).collect(),
         };
-        raw.records.push(Record {
-            id: slot(8 * i),
-            predecessor: slot(8 * (i + n - 1) + if random.one_in(3) { 7 } else { 0 }),
-            pending: 0,
-            candidate: 0,
-            list: slots.iter().map(|&at| slot(8 * i + at)).collect(),
-        });
+        let predecessor = slot(8 * (i + n - 1) + if random.one_in(3) { 7 } else { 0 });
+        let list = slots.iter().map(|&at| slot(8 * i + at)).collect();
+        records.push(Record::new(slot(8 * i), predecessor, None, list));
     }
+    let mut raw = Raw::new(r, steps, records);
     if random.one_in(3) {
         await_some(random, &mut raw);
     }

@@ -48,7 +48,7 @@ pub fn find(compare: &mut Compare, random: &mut Random) -> Result {
             2 => make::sound(random, r, n),
             _ => ragged(random, r, n),
         };
-        let t = make::with_room(random, &raw.words(), r + 4);
+        let t = make::with_room(random, &raw.words(), raw.width());
         if number < 3 && !reference::is_sound(t.slice()) {
             return Err(format!("HARNESS makes a table that is not sound: {:?}\n", t.all));
         }
@@ -62,7 +62,7 @@ pub fn find(compare: &mut Compare, random: &mut Random) -> Result {
         finds(compare, random, &after, 2)?;
         compare.settle(&after, 0)?;
         make::cut_off(random, &mut raw);
-        let t = make::with_room(random, &raw.words(), r + 4);
+        let t = make::with_room(random, &raw.words(), raw.width());
         finds(compare, random, &t, 8)?;
         compare.settle(&t, random.pick(&[0, 1]))?;
     }

@@ -29,12 +29,12 @@ fn any_table(random: &mut Random) -> Piece<u32> {
     };
     if n > r && random.one_in(2) {
         let ids = Space::any(random, n).rising(random, n);
-        let mut words = make::junk(random, 3 + n * (r + 4));
+        let mut words = make::junk(random, layout::size(r, n));
         reference::new(&mut words, r as u32, &ids);
         return Piece::whole(words);
     }
     let raw = make::well_formed(random, Some(n));
-    make::with_room(random, &raw.words(), raw.r as usize + 4)
+    make::with_room(random, &raw.words(), raw.width())
 }
 
 /// The lowest members and the last, some others, and names that may be none.

@@ -1,16 +1,14 @@
 //! The rounds of images: written, read back, damaged, and read field by field.
 
 use super::*;
+use crate::layout::{field_at, field_width, first_field, image_count, image_r, HEAD, MEMBERS};
 
 /// A whole image read into slices of several lengths.
 pub fn read_image(compare: &mut Compare, random: &mut Random, image: &Piece<u8>) -> Result {
     let bytes = image.slice();
-    let needed = match bytes.len() {
-        0..=9 => random.below(20),
-        _ => {
-            let count = bytes[4] as usize * 256 + bytes[5] as usize;
-            (3 + count * (bytes[3] as usize + 4)).min(4000)
-        }
+    let needed = match bytes.len() < MEMBERS {
+        true => random.below(20),
+        false => layout::size(image_r(bytes), image_count(bytes)).min(4000),
     };
     let lengths = near(random, needed);
     for len in lengths {
@@ -35,15 +33,15 @@ fn read_fields(compare: &mut Compare, random: &mut Random, image: &Piece<u8>) ->
     if len <= 120 {
         positions.extend(0..len + 5);
     } else {
-        positions.extend([0, 1, 9, 10, 11, len - 4, len - 3, len - 2, len - 1, len]);
+        positions.extend([0, 1, MEMBERS - 1, MEMBERS, MEMBERS + 1]);
+        positions.extend(len - HEAD - 1..=len);
         positions.extend((0..10).map(|_| random.below(len)));
     }
-    if len > 5 {
-        let step = 16 + 4 * image.all[3] as usize;
-        let count = image.all[4] as usize * 256 + image.all[5] as usize;
+    if len >= layout::FIRST_STEPS {
+        let count = image_count(&image.all);
         for i in [0, 1, 2, count.saturating_sub(1), count, count + 1] {
-            let border = 10 + i * step;
-            positions.extend([border - 1, border, border + 1, border + 3]);
+            let border = field_at(image_r(&image.all), i);
+            positions.extend([border - 1, border, border + 1, border + HEAD]);
         }
     }
     for position in positions {
@@ -56,7 +54,7 @@ fn read_fields(compare: &mut Compare, random: &mut Random, image: &Piece<u8>) ->
 pub fn image(compare: &mut Compare, random: &mut Random) -> Result {
     let count = if random.one_in(2) { Some(random.below(4)) } else { None };
     let raw = make::well_formed(random, count);
-    let t = make::with_room(random, &raw.words(), raw.r as usize + 4);
+    let t = make::with_room(random, &raw.words(), raw.width());
     let whole = raw.image();
     let spare = random.below(3);
     let out = filler::<u8>(random, whole.len() + spare);
@@ -69,16 +67,16 @@ pub fn image(compare: &mut Compare, random: &mut Random) -> Result {
     read_fields(compare, random, &image)?;
 
     // Cut short, with the rest after the slice.
-    let record = 16 + 4 * raw.r as usize;
+    let width = field_width(raw.r as usize);
     for len in 0..whole.len() {
-        let from_border = (len + record - 10 % record) % record;
-        let at_border = from_border <= 4 || from_border + 4 >= record || len < 16;
+        let from_border = (len + width - MEMBERS % width) % width;
+        let at_border = from_border <= 4 || from_border + 4 >= width || len < MEMBERS + 6;
         if whole.len() <= 120 || at_border || len + 8 > whole.len() {
             let cut = Piece::cut(&whole, len);
             compare.image_read(&t, &cut)?;
             compare.image_field(&cut, 0)?;
             compare.image_field(&cut, len.saturating_sub(from_border))?;
-            compare.image_field(&cut, len.saturating_sub(3))?;
+            compare.image_field(&cut, len.saturating_sub(HEAD))?;
         }
     }
     // Each byte changed.
@@ -102,14 +100,16 @@ pub fn image(compare: &mut Compare, random: &mut Random) -> Result {
     for _ in 0..6 {
         let len = random.below(90);
         let mut bytes = filler::<u8>(random, len);
-        let head = [1, 0, 7, random.below(10) as u8, 0, random.below(4) as u8, 0, 0, 0, 9];
-        let given = random.below(11).min(bytes.len());
-        bytes[..given].copy_from_slice(&head[..given]);
+        let first = first_field(random.below(10) as u32, random.below(4) as u32, 9);
+        let given = random.below(first.len() + 1).min(bytes.len());
+        bytes[..given].copy_from_slice(&first[..given]);
         let bytes = Piece::whole(bytes);
         read_image(compare, random, &bytes)?;
         read_fields(compare, random, &bytes)?;
     }
     // A head that asks for much: due fields far past the end.
-    let bytes = Piece::whole(vec![1, 0, 7, 255, 255, 255, 0, 0, 0, 0, 2, 4, 9, 0]);
-    read_fields(compare, random, &bytes)
+    let mut bytes = first_field(255, 65535, 0);
+    bytes.extend(layout::head(layout::MEMBER, layout::member_length(255)));
+    bytes.push(0);
+    read_fields(compare, random, &Piece::whole(bytes))
 }

@@ -2,14 +2,14 @@
 //! tables of any shape, small and full, with room for a record and without.
 
 use super::*;
-use crate::make::Record;
+use crate::layout::Record;
 
 /// Slices of a table, with so many words after the last record. Words of no
 /// meaning stand after each slice.
 fn with_rooms(random: &mut Random, raw: &Raw, rooms: &[usize]) -> Vec<Piece<u32>> {
     let mut all = raw.words();
     let needed = all.len();
-    all.extend(make::junk(random, 24));
+    all.extend(make::junk(random, 2 * layout::width(8)));
     rooms.iter().map(|room| Piece::cut(&all, needed + room)).collect()
 }
 
@@ -82,7 +82,7 @@ fn joins(
 /// Joins on slices of a small table: with room for a record, with one word too
 /// few, with none, and others.
 fn small_joins(compare: &mut Compare, random: &mut Random, raw: &Raw) -> Result {
-    let width = raw.r as usize + 4;
+    let width = raw.width();
     let fewer = random.range(1, width - 2);
     joins(compare, random, raw, &[width, width - 1, fewer, 0, 2 * width - 1], 6)
 }
@@ -92,7 +92,7 @@ fn after_losses(compare: &mut Compare, random: &mut Random) -> Result {
     let r = random.range(1, 8);
     let n = r + 1 + random.below(10);
     let ids = Space::any(random, 2 * n).rising(random, n);
-    let words = make::junk(random, 3 + n * (r + 4));
+    let words = make::junk(random, layout::size(r, n));
     let mut t =
         Piece::whole(compare.make(&Piece::whole(words), r as u32, &Piece::whole(ids))?.first);
     for _ in 0..random.range(1, 3) {
@@ -163,15 +163,10 @@ fn of_any_shape(random: &mut Random, n: usize, r: usize) -> Raw {
             1 => ids[(i + 1) % n],
             _ => random.pick(&ids),
         };
-        records.push(Record {
-            id: ids[i],
-            predecessor: if random.one_in(2) { dead(random, &ids) } else { random.pick(&ids) },
-            pending: pending as u32,
-            candidate: if pending { candidate } else { 0 },
-            list,
-        });
+        let predecessor = if random.one_in(2) { dead(random, &ids) } else { random.pick(&ids) };
+        records.push(Record::new(ids[i], predecessor, pending.then_some(candidate), list));
     }
-    Raw { r: r as u32, count: n as u32, steps: random.word(), records }
+    Raw::new(r, random.word(), records)
 }
 
 /// Joins before an entry that is the word right after the last record, as one
@@ -180,7 +175,7 @@ fn before_the_rest(compare: &mut Compare, random: &mut Random, raw: &Raw) -> Res
     let mut words = raw.words();
     let by = &raw.records[random.below(raw.records.len())];
     words.push(by.list[0]);
-    words.extend(make::junk(random, raw.r as usize + 3));
+    words.extend(make::junk(random, raw.width() - 1));
     compare.join(&Piece::whole(words), by.id.wrapping_add(1), by.id)?;
     Ok(())
 }
@@ -193,7 +188,7 @@ fn full_tables(compare: &mut Compare, random: &mut Random) -> Result {
     let mut raw = of_any_shape(random, n, r);
     if random.one_in(2) {
         let ids: Vec<u32> = raw.records.iter().map(|m| m.id).collect();
-        let mut words = make::junk(random, 3 + 256 * (r + 4));
+        let mut words = make::junk(random, layout::size(r, 256));
         reference::new(&mut words, r as u32, &ids);
         let lost = [ids[0], ids[n - 1], random.pick(&ids)];
         for n in lost.into_iter().take(random.range(1, 3)) {
@@ -205,7 +200,7 @@ fn full_tables(compare: &mut Compare, random: &mut Random) -> Result {
         }
         raw = Raw::of(&words);
     }
-    let width = r + 4;
+    let width = layout::width(r);
     joins(compare, random, &raw, &[width, width - 1, 0], 1)
 }
 

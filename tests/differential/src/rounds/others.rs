@@ -33,7 +33,7 @@ pub fn new(compare: &mut Compare, random: &mut Random) -> Result {
         let mut more = ids.clone();
         more.extend(ids.last().map_or([7, 8], |l| [l.wrapping_add(1), l.wrapping_add(2)]));
         let ids = Piece::cut(&more, n);
-        let needed = 3 + n * (r.min(12) as usize + 4);
+        let needed = layout::size(r.min(12) as usize, n);
         for len in near(random, needed) {
             let words = make::junk(random, len + 4);
             compare.make(&Piece::cut(&words, len), r, &ids)?;

@@ -2,7 +2,7 @@
 //! that skips a chosen member, the very first and the very last pair too.
 
 use super::*;
-use crate::make::Record;
+use crate::layout::{Record, HEADER, ID};
 use crate::reference::between;
 
 /// What a list entry may be: members, their neighbours, and anything.
@@ -55,16 +55,10 @@ fn skipped_at(random: &mut Random, r: usize, ids: &[u32], x: u32, at: usize) -> 
             list.push(b);
             a = b;
         }
-        let pending = random.one_in(6);
-        records.push(Record {
-            id: ids[i],
-            predecessor: ids[(i + n - 1) % n],
-            pending: pending as u32,
-            candidate: if pending { any_entry(random, ids) } else { 0 },
-            list,
-        });
+        let candidate = random.one_in(6).then(|| any_entry(random, ids));
+        records.push(Record::new(ids[i], ids[(i + n - 1) % n], candidate, list));
     }
-    Raw { r: r as u32, count: n as u32, steps: random.word(), records }
+    Raw::new(r, random.word(), records)
 }
 
 /// The member asked for: the ends of the table, those near them, or another.
@@ -105,7 +99,7 @@ fn made(random: &mut Random, n: usize, r: usize, at: usize) -> (Piece<u32>, u32)
     }
     let x = ids[any_place(random, n)];
     let raw = skipped_at(random, r, &ids, x, at);
-    (make::with_room(random, &raw.words(), r + 4), x)
+    (make::with_room(random, &raw.words(), raw.width()), x)
 }
 
 /// Identifiers that may be members or not, and the ends of the space.
@@ -130,25 +124,27 @@ pub fn principal(compare: &mut Compare, random: &mut Random) -> Result {
             compare.principal(&t, n)?;
         }
         // Without room after it, and cut short.
-        let needed = 3 + n * (r + 4);
-        for len in [needed, needed - 1, needed - r, needed - 1 - random.below(r + 4), 3, 2] {
+        let needed = layout::size(r, n);
+        let some = needed - 1 - random.below(layout::width(r));
+        for len in [needed, needed - 1, needed - r, some, HEADER, HEADER - 1] {
             compare.principal(&Piece::cut(&t.all, len), x)?;
         }
         // One word changed; the header's words too.
         let mut changed = t.clone();
-        let i = if random.one_in(3) { random.below(3) } else { random.below(needed) };
+        let i = if random.one_in(3) { random.below(HEADER) } else { random.below(needed) };
         changed.all[i] = match random.below(3) {
             0 => changed.all[i].wrapping_add(1),
             1 => changed.all[i].wrapping_sub(1),
             _ => random.pick(&[0, 1, 2, 9, 257, x, u32::MAX]),
         };
         compare.principal(&changed, x)?;
-        compare.principal(&changed, changed.all[3])?;
+        compare.principal(&changed, changed.all[layout::record_at(r, 0) + ID])?;
     }
     // No members, whatever words follow.
     let words = make::junk(random, 40);
-    let mut none = Piece::cut(&words, random.range(3, 40));
-    none.all[..3].copy_from_slice(&[random.range(1, 8) as u32, 0, random.word()]);
+    let mut none = Piece::cut(&words, random.range(HEADER, 40));
+    let header = Raw::new(random.range(1, 8), random.word(), Vec::new()).words();
+    none.all[..HEADER].copy_from_slice(&header);
     for n in others(random, &none) {
         compare.principal(&none, n)?;
     }

@@ -16,7 +16,7 @@ fn limits(random: &mut Random, n: u32, principals: u32, r: u32) -> Vec<u32> {
 fn calls(compare: &mut Compare, random: &mut Random, t: &Piece<u32>, most: usize) -> Result {
     let seen = reference::audit(t.slice());
     let all = match seen.values {
-        [n, principals, _, 1..=2] => limits(random, n, principals, t.slice()[0]),
+        [n, principals, _, 1..=2] => limits(random, n, principals, t.slice()[layout::R]),
         _ => vec![random.pick(&[0, 1, u32::MAX])],
     };
     compare.round(t)?;
@@ -40,7 +40,7 @@ fn churned(random: &mut Random, r: usize) -> Raw {
     let n = r + 1 + random.below(4);
     let space = Space::any(random, 4 * n);
     let ids = space.rising(random, n);
-    let mut words = vec![0; 3 + 4 * n * (r + 4)];
+    let mut words = vec![0; layout::size(r, 4 * n)];
     reference::new(&mut words, r as u32, &ids);
     for _ in 0..random.range(2, 12) {
         let live = members(&words);
@@ -111,13 +111,13 @@ pub fn settling(compare: &mut Compare, random: &mut Random) -> Result {
         let r = if random.one_in(6) { 8 } else { random.range(1, 8) };
         let n = if random.one_in(4) { r + 1 } else { r + 1 + random.below(14) };
         let raw = if number == 3 { churned(random, r) } else { make::sound(random, r, n) };
-        let t = make::with_room(random, &raw.words(), r + 4);
+        let t = make::with_room(random, &raw.words(), raw.width());
         if !reference::is_sound(t.slice()) {
             return Err(format!("HARNESS makes a table that is not sound: {:?}\n", t.all));
         }
         calls(compare, random, &t, 7)?;
         let other = changed(random, &raw);
-        let t = make::with_room(random, &other.words(), r + 4);
+        let t = make::with_room(random, &other.words(), other.width());
         calls(compare, random, &t, 2)?;
         // One word too few.
         let words = raw.words();
@@ -131,7 +131,7 @@ pub fn settling(compare: &mut Compare, random: &mut Random) -> Result {
 pub fn full_settling(compare: &mut Compare, random: &mut Random) -> Result {
     let r = random.pick(&[1, 2, 3, 8]);
     let raw = make::sound(random, r, 256);
-    let t = make::with_room(random, &raw.words(), r + 4);
+    let t = make::with_room(random, &raw.words(), raw.width());
     calls(compare, random, &t, 2)?;
     let other = changed(random, &raw);
     calls(compare, random, &Piece::whole(other.words()), 1)?;
