@@ -131,7 +131,8 @@ struct ring_answer ring_round(uint32_t *table, size_t words);
    run: the dead entries before the first live one of each list, added up over all members, at most r - 1 a member. It tells how stale the
    lists were: 0 if each member's first entry was a member, as on an ideal table.
    Enough are members - principals + r rounds, by ring_audit's numbers before the call: so many, or any more, make every sound table ideal, and
-   that is at most members - 1. So a limit of 255 is never reached with verdict 1. A round after that many changes the step count only. */
+   that is at most members - 1. So a limit of 255 is never reached with verdict 1. The rounds of several calls add up, single rounds among them,
+   as long as no other call stands between them. A round after that many changes the step count only. */
 struct ring_answer ring_settle(uint32_t *table, size_t words, uint32_t limit);
 
 /* Loss of n: its record goes, those above move down, the r + 4 words freed become 0. values: member count afterwards. 1, 3. */
