@@ -1,10 +1,10 @@
 -- The size of an image, the head of a field, and what the first field and a member's say.
 use Prim.Native.Nat.{ℕ, _+_, _*_}
 use mathlib.Core.Bool.{Bool, _&&_}
-use mathlib.Core.List.{List, _++_}
+use mathlib.Core.List.{List}
 use lib.Dec.{eqb}
 use lib.ListN.{getD, drop}
-use Rattle.model.specs.Image.{bytesOf, numberAt, field, fieldHead, headerLength, fieldMember, tableIn}
+use Rattle.model.specs.Image.{numberAt, field, headerContents, fieldHead, headerLength, fieldMember, tableIn}
 use Rattle.laws.specs.Bytes.{fieldSize}
 
 -- the bytes of the first field: after them the members' start
@@ -21,7 +21,7 @@ headIs bs tag len = eqb (getD bs 0 0) tag && eqb (numberAt bs 1 2) len
 
 -- the first field of an image: r, member count, step count
 abbrev pub headerBytes : ℕ → ℕ → ℕ → List ℕ
-headerBytes r n steps = field 1 (bytesOf 1 r ++ (bytesOf 2 n ++ bytesOf 4 steps))
+headerBytes r n steps = field 1 (headerContents r n steps)
 
 -- the step count that it says
 abbrev pub imageSteps : List ℕ → ℕ

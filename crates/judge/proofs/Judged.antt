@@ -11,10 +11,10 @@ use lib.ListN.{length, take, drop, take-append-drop, length-drop, length-take, d
 use borrow.Author.Tests.{eqb-true, eqb-false, eq-eqb, ne-eqb, lt-ltb, le-leb, lt-leb}
 use Rattle.model.specs.Lists.{every, same, rising, risingFrom}
 use Rattle.model.specs.Table.{spaceOf, wordLimit, Member, recordSize, recordOf, ids, formedMember, formed}
-use Rattle.model.specs.Image.{numberFrom, numberAt, numbersAt, field, memberField, memberFields, imageOf, fieldHead, headerLength, memberLength, fieldMember, fieldMembers, imageR, imageCount, tableIn, isImage}
+use Rattle.model.specs.Image.{headerContents, memberContents, numberFrom, numberAt, numbersAt, field, memberField, memberFields, imageOf, fieldHead, headerLength, memberLength, fieldMember, fieldMembers, imageR, imageCount, tableIn, isImage}
 use Rattle.laws.specs.Lists.{same-eq}
 use Rattle.laws.specs.Tables.{space-words}
-use Rattle.laws.specs.Bytes.{Bytes, bytes-drop, number-below, numbers-length, words-said, fieldSize, contents, contents-written, headerContents, header-said, image-length, in-length, in-lists}
+use Rattle.laws.specs.Bytes.{Bytes, bytes-drop, number-below, numbers-length, words-said, fieldSize, contents-written, header-said, image-length, in-length, in-lists}
 use Rattle.table.specs.Tests.{rightPending}
 use Rattle.table.proofs.Formed.{Bounded, member-right}
 use Rattle.fields.specs.Fields.{firstSize, imageSize, headIs, imageSteps, idIn}
@@ -105,7 +105,7 @@ module _ (w : ℕ) (all : wordLimit ≤ w) (r : ℕ) (hr : r ≤ 8) where
       let lf : memberLength r ≤ length f = rw length-drop (omega arith) in
       let head : Bool = headIs bs 2 (memberLength r) in
       let others : Bool = every (formedMember w r) (fieldMembers r n rest) in
-      let bytes : same ((memberField m ++ memberFields (fieldMembers r n rest)) ++ field 3 []) bs ≡ (head && same z rest) = ap (λ (v : List ℕ). same v bs) (append-assoc (memberField m) (memberFields (fieldMembers r n rest)) (field 3 [])) ∙ same-field 2 (memberLength r) (contents m) z bs h (omega arith) (omega arith) (contents-written r f hf lf) in
+      let bytes : same ((memberField m ++ memberFields (fieldMembers r n rest)) ++ field 3 []) bs ≡ (head && same z rest) = ap (λ (v : List ℕ). same v bs) (append-assoc (memberField m) (memberFields (fieldMembers r n rest)) (field 3 [])) ∙ same-field 2 (memberLength r) (memberContents m) z bs h (omega arith) (omega arith) (contents-written r f hf lf) in
       ap (λ (x : Bool). (a && rise) && (formedMember w r m && others) && x) bytes
       ∙ regroup head a (formedMember w r m) rise others (same z rest)
       ∙ ap₂ (λ (p q : Bool). p && q) (ap₂ (λ (u v : Bool). head && u && v) e (member-tests w all r f hf lf)) ih
@@ -137,7 +137,7 @@ module _ (bs : List ℕ) (h : Bytes bs) where
       rw (le-leb 1 (imageR bs) lo, le-leb (imageR bs) 8 hi, in-length (imageR bs) (imageCount bs) (drop firstSize bs), le-leb (imageCount bs) 256 few, lt-ltb (imageSteps bs) wordLimit (number-below 4 6 bs h (omega arith)))
 
   header-first : firstSize ≤ length bs → same (imageOf (tableIn bs)) bs ≡ (headIs bs 1 headerLength && same (memberFields (tableIn bs .members) ++ field 3 []) (drop firstSize bs))
-  header-first l = same-field 1 headerLength (headerContents (tableIn bs)) (memberFields (tableIn bs .members) ++ field 3 []) bs h (omega arith) l (header-said bs h l)
+  header-first l = same-field 1 headerLength (headerContents (imageR bs) (length (tableIn bs .members)) (tableIn bs .steps)) (memberFields (tableIn bs .members) ++ field 3 []) bs h (omega arith) l (header-said bs h l)
 
   -- bytes whose sizes are right are an image by the tests of their fields
   pub judged : 1 ≤ imageR bs → imageR bs ≤ 8 → imageCount bs ≤ 256 → length bs ≡ imageSize (imageR bs) (imageCount bs) → isImage bs ≡ (headIs bs 1 headerLength && fieldsRight (imageR bs) 0 (imageCount bs) (drop firstSize bs))

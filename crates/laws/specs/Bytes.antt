@@ -8,7 +8,7 @@ use native.Mathlib.Omega.{arith}
 use lib.ListN.{length, getD, take, drop, length-append, length-drop}
 use lib.Seq.{length-take-le, take-add, drop-at, drop-drop, getD-drop}
 use Rattle.model.specs.Table.{Member, Table, spaceOf, wordLimit, recordSize, recordOf}
-use Rattle.model.specs.Image.{bytesOf, numberFrom, numberAt, words4, field, memberField, memberFields, imageOf, fieldHead, headerLength, memberLength, numbersAt, fieldMember, fieldMembers, imageR, imageCount, tableIn}
+use Rattle.model.specs.Image.{bytesOf, numberFrom, numberAt, words4, field, headerContents, memberContents, memberField, memberFields, imageOf, fieldHead, headerLength, memberLength, numbersAt, fieldMember, fieldMembers, imageR, imageCount, tableIn}
 use Rattle.laws.specs.Lists.{In, here, there, in-cons, in-nil}
 use Rattle.laws.specs.Parts.{drop-take, part-of-part}
 use Rattle.laws.specs.Words.{Lengths}
@@ -98,21 +98,17 @@ numbers-part (suc n) k bs h = ap₂ (λ (z : ℕ) (l : List ℕ). z ∷ l) (numb
 
 -- A member and its field
 
--- what stands in a member's field
-abbrev pub contents : Member → List ℕ
-contents m = words4 (m .id ∷ m .predecessor ∷ []) ++ (bytesOf 1 (m .pending) ++ words4 (m .candidate ∷ m .successors))
-
 -- the bytes of a member's field
 abbrev pub fieldSize : ℕ → ℕ
 fieldSize r = fieldHead + memberLength r
 
-pub contents-length : (r : ℕ) (m : Member) → length (m .successors) ≡ r → length (contents m) ≡ memberLength r
+pub contents-length : (r : ℕ) (m : Member) → length (m .successors) ≡ r → length (memberContents m) ≡ memberLength r
 contents-length r m e = omega (arith, words-length (m .successors))
 
 pub field-length : (r : ℕ) (m : Member) → length (m .successors) ≡ r → length (memberField m) ≡ fieldSize r
 field-length r m e = omega (arith, contents-length r m e)
 
-pub contents-read : (w r : ℕ) (m : Member) (rest : List ℕ) → w ≤ wordLimit → FormedMember w r m → fieldMember r (contents m ++ rest) ≡ m
+pub contents-read : (w r : ℕ) (m : Member) (rest : List ℕ) → w ≤ wordLimit → FormedMember w r m → fieldMember r (memberContents m ++ rest) ≡ m
 contents-read w r m rest h f = λ i. record {
   id = bytes-say 4 (m .id) (omega (arith, f .id-small)) i;
   predecessor = bytes-say 4 (m .predecessor) (omega (arith, f .predecessor-small)) i;
@@ -144,7 +140,7 @@ field-part r bs = ap (fieldMember r) (drop-take fieldHead (fieldSize r) bs) ∙ 
 pub cut : (at n k : ℕ) (l a b : List ℕ) → a ≡ take n (drop at l) → b ≡ take k (drop (at + n) l) → a ++ b ≡ take (n + k) (drop at l)
 cut at n k l a b p q = rw (p, q, ← drop-drop n at l) (sym (take-add n k (drop at l)))
 
-pub contents-written : (r : ℕ) (bs : List ℕ) → Bytes bs → memberLength r ≤ length bs → contents (fieldMember r bs) ≡ take (memberLength r) bs
+pub contents-written : (r : ℕ) (bs : List ℕ) → Bytes bs → memberLength r ≤ length bs → memberContents (fieldMember r bs) ≡ take (memberLength r) bs
 contents-written r bs h l =
     let list = numbers-written r (drop 13 bs) (bytes-drop 13 bs h) (rw length-drop (omega arith)) in
     let c9 = cut 9 4 (4 * r) bs (bytesOf 4 (numberAt bs 9 4)) _ (said-at 4 9 bs h (omega arith)) list in
@@ -183,13 +179,10 @@ fields-read w r (m ∷ ms) rest k h =
 
 -- A table and its image
 
--- what stands in the first field
-abbrev pub headerContents : Table → List ℕ
-headerContents T = bytesOf 1 (T .r) ++ (bytesOf 2 (length (T .members)) ++ bytesOf 4 (T .steps))
-
-pub header-said : (bs : List ℕ) → Bytes bs → fieldHead + headerLength ≤ length bs → headerContents (tableIn bs) ≡ take headerLength (drop fieldHead bs)
+-- the bytes of the first field say its contents
+pub header-said : (bs : List ℕ) → Bytes bs → fieldHead + headerLength ≤ length bs → headerContents (tableIn bs .r) (length (tableIn bs .members)) (tableIn bs .steps) ≡ take headerLength (drop fieldHead bs)
 header-said bs h l =
-    ap (λ (n : ℕ). bytesOf 1 (imageR bs) ++ (bytesOf 2 n ++ bytesOf 4 (tableIn bs .steps))) (in-length (imageR bs) (imageCount bs) (drop (fieldHead + headerLength) bs))
+    ap (λ (n : ℕ). headerContents (imageR bs) n (tableIn bs .steps)) (in-length (imageR bs) (imageCount bs) (drop (fieldHead + headerLength) bs))
     ∙ cut 3 1 6 bs _ _ (said-at 1 3 bs h (omega arith)) (cut 4 2 4 bs _ _ (said-at 2 4 bs h (omega arith)) (said-at 4 6 bs h (omega arith)))
 
 pub image-length : (T : Table) → Lengths (T .r) (T .members) → length (imageOf T) ≡ fieldHead + headerLength + fieldHead + length (T .members) * fieldSize (T .r)

@@ -33,12 +33,18 @@ words4 [] = []
 words4 (x ∷ l) = bytesOf 4 x ++ words4 l
 
 -- tag 1: r (one byte), member count (two), step count (four)
+abbrev pub headerContents : ℕ → ℕ → ℕ → List ℕ
+headerContents r n steps = bytesOf 1 r ++ (bytesOf 2 n ++ bytesOf 4 steps)
+
 abbrev pub headerField : Table → List ℕ
-headerField T = field 1 (bytesOf 1 (T .r) ++ (bytesOf 2 (length (T .members)) ++ bytesOf 4 (T .steps)))
+headerField T = field 1 (headerContents (T .r) (length (T .members)) (T .steps))
 
 -- tag 2: identifier, predecessor, pending (one byte), candidate, list
+abbrev pub memberContents : Member → List ℕ
+memberContents m = words4 (m .id ∷ m .predecessor ∷ []) ++ (bytesOf 1 (m .pending) ++ words4 (m .candidate ∷ m .successors))
+
 abbrev pub memberField : Member → List ℕ
-memberField m = field 2 (words4 (m .id ∷ m .predecessor ∷ []) ++ (bytesOf 1 (m .pending) ++ words4 (m .candidate ∷ m .successors)))
+memberField m = field 2 (memberContents m)
 
 -- one tag 2 field a member, in order
 abbrev pub memberFields : List Member → List ℕ

@@ -1,6 +1,6 @@
 -- Each of the seven calls keeps a slice well-formed and sound, and so does every list of them.
 use mathlib.Core.Path.{_≡_, refl, sym, ap, _∙_}
-use mathlib.Core.Bool.{true, _&&_}
+use mathlib.Core.Bool.{Bool, true, _&&_}
 use mathlib.Core.List.{List}
 use Prim.Native.Nat.{ℕ, suc, _+_, _*_, _≤_, _<_}
 use native.Mathlib.Omega.{arith}
@@ -12,6 +12,7 @@ use Rattle.model.specs.Table.{Member, Table, spaceOf, headerSize, recordSize, s
 use Rattle.model.specs.Ring.{named, sound}
 use Rattle.model.specs.Steps.{joiner, joined, stabilize, stabilized, replaced, rectifyIn, rectified, isNamed, without}
 use Rattle.model.specs.Answer.{afterwards}
+use Rattle.model.specs.Fold.{afterAll, eachMeets}
 use Rattle.model.specs.Refusals.{joinRefusal, memberRefusal, leaveRefusal}
 use Rattle.model.specs.Calls.{written, writtenFreed, joinWords, stabilizeWords, rectifyWords, failAnswer, failWords, leaveAnswer, leaveWords}
 use Rattle.model.specs.Run.{Call, Join, Leave, Fail, Stabilize, Rectify, Lookup, Audit, numbersOf, callAnswer, callWords, run, grantedCall, granted}
@@ -130,22 +131,29 @@ call-space c ws = go c
 -- Lists of calls
 
 -- what every call keeps, its numbers being identifiers of a space w
-pub record GoodIn (w : ℕ) (ws : List ℕ) : Type 0 where
-  pub good : Good ws
-  pub in-space : spaceOf (tableOf ws) ≡ w
+record GoodIn (w : ℕ) (ws : List ℕ) : Type 0 where
+  good : Good ws
+  in-space : spaceOf (tableOf ws) ≡ w
 
-call-keeps : (w : ℕ) (c : Call) (ws : List ℕ) → (every (λ x. ltb x w) (numbersOf c) && grantedCall ws c) ≡ true → GoodIn w ws → GoodIn w (callWords ws c)
-call-keeps w c ws h g =
-    let b = and-true (every (λ x. ltb x w) (numbersOf c)) _ h in
-    record { good = call-good c ws (rw (g .in-space) (b .0)) (b .1) (g .good); in-space = call-space c ws ∙ g .in-space }
+-- calls of any kind, with their numbers and their condition: if each keeps a slice good and its space, so does a list of them
+module _ {C : Type 0} (next : List ℕ → C → List ℕ) (numbers : C → List ℕ) (test : List ℕ → C → Bool)
+    (keeps : (c : C) (ws : List ℕ) → every (λ x. ltb x (spaceOf (tableOf ws))) (numbers c) ≡ true → test ws c ≡ true → Good ws → Good (next ws c))
+    (same-space : (c : C) (ws : List ℕ) → Good ws → spaceOf (tableOf (next ws c)) ≡ spaceOf (tableOf ws)) where
+  keeps-in : (w : ℕ) (c : C) (ws : List ℕ) → (every (λ x. ltb x w) (numbers c) && test ws c) ≡ true → GoodIn w ws → GoodIn w (next ws c)
+  keeps-in w c ws h g =
+      let b = and-true (every (λ x. ltb x w) (numbers c)) _ h in
+      record { good = keeps c ws (rw (g .in-space) (b .0)) (b .1) (g .good); in-space = same-space c ws (g .good) ∙ g .in-space }
+
+  pub all-good : (cs : List C) (ws : List ℕ) → every (λ c. every (λ x. ltb x (spaceOf (tableOf ws))) (numbers c)) cs ≡ true → eachMeets next test cs ws ≡ true → Good ws → Good (afterAll next cs ws)
+  all-good cs ws identifiers grants g =
+      let w = spaceOf (tableOf ws) in
+      all-keep next (GoodIn w) (λ us c. every (λ x. ltb x w) (numbers c) && test us c) (keeps-in w) cs ws
+      (all-meet next (λ c. every (λ x. ltb x w) (numbers c)) test cs ws identifiers grants)
+      (record { good = g; in-space = refl }) .good
 
 pub run-good : (cs : List Call) (ws : List ℕ) → Starts cs ws → Good (run cs ws)
 unfolding run granted
-run-good cs ws s =
-    let w = spaceOf (tableOf ws) in
-    all-keep callWords (GoodIn w) (λ us c. every (λ x. ltb x w) (numbersOf c) && grantedCall us c) (call-keeps w) cs ws
-    (all-meet callWords (λ c. every (λ x. ltb x w) (numbersOf c)) grantedCall cs ws (s .identifiers) (s .grants))
-    (record { good = record { well-formed = s .well-formed; is-sound = s .is-sound }; in-space = refl }) .good
+run-good cs ws s = all-good callWords numbersOf grantedCall call-good (λ c us g. call-space c us) cs ws (s .identifiers) (s .grants) (record { well-formed = s .well-formed; is-sound = s .is-sound })
 
 pub kept : (cs : List Call) (ws : List ℕ) → Starts cs ws → (wellFormed (run cs ws) ≡ true) × (sound (tableOf (run cs ws)) ≡ true)
 kept cs ws s = let g = run-good cs ws s in (g .well-formed, g .is-sound)

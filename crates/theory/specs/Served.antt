@@ -1,6 +1,6 @@
 -- Demand 3's claim for lists in which rounds and settles stand among the seven calls: the ring never splits.
 use mathlib.Core.Path.{_≡_, refl, ap, _∙_}
-use mathlib.Core.Bool.{true, _&&_}
+use mathlib.Core.Bool.{true}
 use mathlib.Core.List.{List}
 use Prim.Native.Nat.{ℕ}
 use lib.Dec.{ltb}
@@ -12,12 +12,10 @@ use Rattle.model.specs.Settle.{afterRound, afterRounds, afterSettle, roundsRun}
 use Rattle.model.specs.Refusals.{settleRefusal}
 use Rattle.model.specs.Calls.{written, roundWords, settleWords}
 use Rattle.model.specs.Service.{Service, Called, Round, Settle, identifiersOf, serviceWords, served, grantedService, grantedAll}
-use Rattle.laws.specs.Fold.{all-keep, all-meet}
-use Rattle.laws.specs.Lists.{and-true}
 use Rattle.laws.specs.Accepted.{afterwards-has}
 use Rattle.theory.specs.Claim.{Holds}
 use Rattle.theory.specs.Static.{holds}
-use Rattle.theory.specs.Runs.{Good, good-kept, GoodIn, call-good, call-space}
+use Rattle.theory.specs.Runs.{Good, good-kept, call-good, call-space, all-good}
 use Rattle.theory.specs.Turns.{rounds-last}
 use Rattle.theory.specs.Settled.{rounds-slice}
 
@@ -53,18 +51,9 @@ service-space (Called c) ws g = call-space c ws
 service-space Round ws g = rounds-space 1 (settleRefusal ws) ws g
 service-space (Settle limit) ws g = rounds-space (roundsRun limit (tableOf ws)) (settleRefusal ws) ws g
 
-service-keeps : (w : ℕ) (s : Service) (ws : List ℕ) → (every (λ x. ltb x w) (identifiersOf s) && grantedService ws s) ≡ true → GoodIn w ws → GoodIn w (serviceWords ws s)
-service-keeps w s ws h g =
-    let b = and-true (every (λ x. ltb x w) (identifiersOf s)) _ h in
-    record { good = service-good s ws (rw (g .in-space) (b .0)) (b .1) (g .good); in-space = service-space s ws (g .good) ∙ g .in-space }
-
 served-good : (ss : List Service) (ws : List ℕ) → ServiceStarts ss ws → Good (served ss ws)
 unfolding served grantedAll
-served-good ss ws b =
-    let w = spaceOf (tableOf ws) in
-    all-keep serviceWords (GoodIn w) (λ us s. every (λ x. ltb x w) (identifiersOf s) && grantedService us s) (service-keeps w) ss ws
-    (all-meet serviceWords (λ s. every (λ x. ltb x w) (identifiersOf s)) grantedService ss ws (b .identifiers) (b .grants))
-    (record { good = record { well-formed = b .well-formed; is-sound = b .is-sound }; in-space = refl }) .good
+served-good ss ws b = all-good serviceWords identifiersOf grantedService service-good service-space ss ws (b .identifiers) (b .grants) (record { well-formed = b .well-formed; is-sound = b .is-sound })
 
 -- the ring never splits
 pub served-holds : (ss : List Service) (ws : List ℕ) → ServiceStarts ss ws → Holds (served ss ws)
