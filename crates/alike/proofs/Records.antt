@@ -1,4 +1,4 @@
--- Two runs of records side by side: one turn of the loop that compares them. Assumes nothing.
+-- Two runs of records side by side: one iteration of the loop that compares them. Assumes nothing.
 use Prim.Native.Nat.{ℕ, suc, _-_, _≤_, _<_}
 use mathlib.Core.Path.{_≡_, refl, ap}
 use mathlib.Core.List.{List, [], _∷_, map}
@@ -27,7 +27,9 @@ module _ (r n : ℕ) (us vs : List ℕ) (b : Bool) (some : 0 < n) (t : b ≡ sam
   first-apart =
       let ms : List Member = membersOf r (n - 1) (drop (recordSize r) us) in
       let ns : List Member = membersOf r (n - 1) (drop (recordSize r) vs) in
-      rw (first-member r n us some, first-member r n vs some, t) (and-pairs (eqb (getD us 0 0) (getD vs 0 0)) (same (ids ms) (ids ns)) (eqb (successor (memberOf r us)) (successor (memberOf r vs))) (same (map successor ms) (map successor ns)))
+      rw (first-member r n us some, first-member r n vs some, t)
+      (and-pairs (eqb (getD us 0 0) (getD vs 0 0)) (same (ids ms) (ids ns)) (eqb (successor (memberOf r us)) (successor (memberOf r vs)))
+      (same (map successor ms) (map successor ns)))
 
   pub unlike-here : b ≡ false → false ≡ sameMembers (membersOf r n us) (membersOf r n vs)
   unlike-here e = rw (first-apart, e)
@@ -51,6 +53,8 @@ lengths-differ (x ∷ l) [] d = refl
 lengths-differ (x ∷ l) (y ∷ k) d = rw (lengths-differ l k (λ e. d (ap suc e)), and-false)
 
 -- two tables of equal r and member count are alike as their records are
-pub records-decide : (us vs : List ℕ) (b : Bool) → getD us 0 0 ≡ getD vs 0 0 → getD us 1 0 ≡ getD vs 1 0 → b ≡ sameMembers (membersOf (getD us 0 0) (getD us 1 0) (drop headerSize us)) (membersOf (getD us 0 0) (getD us 1 0) (drop headerSize vs)) → b ≡ alike (tableOf us) (tableOf vs)
+pub records-decide : (us vs : List ℕ) (b : Bool) → getD us 0 0 ≡ getD vs 0 0 → getD us 1 0 ≡ getD vs 1 0
+    → b ≡ sameMembers (membersOf (getD us 0 0) (getD us 1 0) (drop headerSize us)) (membersOf (getD us 0 0) (getD us 1 0) (drop headerSize vs))
+    → b ≡ alike (tableOf us) (tableOf vs)
 unfolding alike
 records-decide us vs b er en t = rw (← er, ← en, eq-eqb _ _ refl) t

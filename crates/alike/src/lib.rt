@@ -10,16 +10,17 @@ ghost use Rattle.model.specs.Table.{recordSize, memberOf, membersOf, tableOf, i
 ghost use Rattle.model.specs.Ring.{successor};
 ghost use Rattle.model.specs.Alike.{alike as alikeOf};
 ghost use Rattle.model.specs.Calls.{alikeAnswer};
-ghost use Rattle.table.specs.Formed.{Formed};
-ghost use Rattle.yes_no.specs.Answers.{answerOf};
-use yes_no::YesNo;
+ghost use Rattle.table.specs.FormedWords.{FormedWords};
+ghost use Rattle.answers.specs.YesNo.{answerOf};
+use answers::yes_no::YesNo;
 
 // Have the records that the two parts hold equal identifiers and first entries?
 fn record_alike(u: &[u32], v: &[u32]) -> bool
     requires { ⌜ (recordSize 1 ≤ length (now u)) × (recordSize 1 ≤ length (now v)) ⌝ }
-    ensures { λ b. ⌜ ((r : ℕ) → 1 ≤ r → b ≡ (eqb (memberOf r (now (u .entry)) .id) (memberOf r (now (v .entry)) .id) && eqb (successor (memberOf r (now (u .entry)))) (successor (memberOf r (now (v .entry)))))) ⌝ }
+    ensures { λ b. ⌜ ((r : ℕ) → 1 ≤ r → b ≡ (eqb (memberOf r (now (u .entry)) .id) (memberOf r (now (v .entry)) .id)
+        && eqb (successor (memberOf r (now (u .entry)))) (successor (memberOf r (now (v .entry)))))) ⌝ }
 {
-    if u[0] != v[0] {
+    if u[words::ID] != v[words::ID] {
         return false;
     }
     u[words::LIST] == v[words::LIST]
@@ -28,9 +29,10 @@ fn record_alike(u: &[u32], v: &[u32]) -> bool
 // Have the n records at the front of each equal identifiers and first entries?
 fn records_alike(us: &[u32], vs: &[u32], r: usize, n: usize) -> bool
     requires { ⌜ (1 ≤ r) × (r ≤ 8) × (n * recordSize r ≤ length (now us)) × (n * recordSize r ≤ length (now vs)) ⌝ }
-    ensures { λ b. ⌜ b ≡ (same (ids (membersOf r n (now (us .entry)))) (ids (membersOf r n (now (vs .entry)))) && same (map successor (membersOf r n (now (us .entry)))) (map successor (membersOf r n (now (vs .entry))))) ⌝ }
+    ensures { λ b. ⌜ b ≡ (same (ids (membersOf r n (now (us .entry)))) (ids (membersOf r n (now (vs .entry))))
+        && same (map successor (membersOf r n (now (us .entry)))) (map successor (membersOf r n (now (vs .entry))))) ⌝ }
 {
-    let w = words::width(r);
+    let w = words::record_size(r);
     let mut p = us;
     let mut q = vs;
     let mut left = n;
@@ -48,17 +50,17 @@ fn records_alike(us: &[u32], vs: &[u32], r: usize, n: usize) -> bool
 
 // Have two well-formed tables equal r, members and first entries?
 fn tables_alike(us: &[u32], vs: &[u32]) -> bool
-    requires { ⌜ Formed (now us) ⌝ }
-    requires { ⌜ Formed (now vs) ⌝ }
+    requires { ⌜ FormedWords (now us) ⌝ }
+    requires { ⌜ FormedWords (now vs) ⌝ }
     ensures { λ b. ⌜ b ≡ alikeOf (tableOf (now (us .entry))) (tableOf (now (vs .entry))) ⌝ }
 {
-    let r = us[0];
-    let s = vs[0];
+    let r = us[words::R];
+    let s = vs[words::R];
     if r != s {
         return false;
     }
-    let n = us[1];
-    let m = vs[1];
+    let n = us[words::COUNT];
+    let m = vs[words::COUNT];
     if n != m {
         return false;
     }

@@ -21,7 +21,7 @@ use Rattle.theory.specs.Claim.{Holds}
 use Rattle.theory.specs.Demand3.{demand-3}
 use Rattle.calls.specs.declared.Call.{Call}
 use Rattle.calls.specs.declared.Call.the-variants.{Join, Leave, Fail, Stabilize, Rectify, Lookup, Audit}
-use Rattle.calls.specs.Calls.{callOf, Begins}
+use Rattle.calls.specs.Calls.{callOf, MayStart}
 use Rattle.calls.proofs.Call as T
 use Rattle.calls.proofs.Call.Laws as T′
 
@@ -74,7 +74,7 @@ words-of (Rectify n q) is = let f = EL.owed T.the-type T′.the-laws (Rectify n 
 words-of (Lookup n k) is = let f = EL.owed T.the-type T′.the-laws (Lookup n k) _ is in two (f .0 .1) (f .1 .0 .1)
 words-of Audit is = refl
 
--- what is known after k turns
+-- what is known after k iterations
 pub record Made (cs : List Call) (ws : List ℕ) (k : ℕ) : Type 0 where
   pub few : k ≤ length cs
   pub as-long : length (ran cs ws k) ≡ length ws
@@ -97,6 +97,7 @@ all-words [] h = refl
 all-words (c ∷ cs) h = true-and (h 0 (omega arith)) (all-words cs (λ j l. h (suc j) (omega arith)))
 
 -- so demand 3 is about the slice after all of them
-pub kept : (cs : List Call) (ws : List ℕ) → Made cs ws (length cs) → Begins cs ws → Holds (ran cs ws (length cs))
+pub kept : (cs : List Call) (ws : List ℕ) → Made cs ws (length cs) → MayStart cs ws → Holds (ran cs ws (length cs))
 kept cs ws r b =
-    rw (ran-all cs ws) (demand-3 (map callOf cs) ws (record { identifiers = rw (space-words (tableOf ws)) (all-words cs (r .numbers)); well-formed = b .well-formed; is-sound = b .is-sound; grants = b .grants }))
+    rw (ran-all cs ws) (demand-3 (map callOf cs) ws (record
+    { identifiers = rw (space-words (tableOf ws)) (all-words cs (r .numbers)); well-formed = b .well-formed; is-sound = b .is-sound; grants = b .grants }))

@@ -20,7 +20,7 @@ callOf Audit = AuditOf
 
 -- a sound table, and each accepted loss one that a withdrawal would have been granted. That the calls' numbers are identifiers need not be said: they
 -- are `u32`
-pub record Begins (cs : List Call) (ws : List ℕ) : Type 0 where
+pub record MayStart (cs : List Call) (ws : List ℕ) : Type 0 where
   pub well-formed : wellFormed ws ≡ true
   pub is-sound : sound (tableOf ws) ≡ true
   pub grants : granted (map callOf cs) ws ≡ true

@@ -11,16 +11,16 @@ use Rattle.model.specs.Steps.{stabilizeFromSuccessor, stabilizeFromPredecessor,
 use Rattle.model.specs.Refusals.{full, cutsOff, tooFewPrincipals, noNewTable, joinRefusal, memberRefusal, leaveRefusal, auditRefusal, newRefusal}
 use Rattle.model.specs.Calls.{joinAnswer, joinWords, stabilizeAnswer, stabilizeWords, rectifyAnswer, rectifyWords, failAnswer, failWords, leaveAnswer, leaveWords, lookupAnswer, auditAnswer, newAnswer, newWords}
 use Rattle.model.specs.Run.{Call, Join, Leave, Fail, Stabilize, Rectify, Lookup, Audit, callAnswer, callWords}
-use Rattle.count.specs.Answers.{answerOf as countOf}
-use Rattle.count.specs.declared.Count.the-variants.{Members, Declined}
-use Rattle.step.specs.Answers.{answerOf as stepOf}
-use Rattle.step.specs.declared.Step.the-variants.{Again, Look, Done}
-use Rattle.notice.specs.Answers.{answerOf as noticeOf}
-use Rattle.notice.specs.declared.Notice.the-variants.{New, Same}
-use Rattle.owner.specs.Answers.{answerOf as ownerOf}
-use Rattle.owner.specs.declared.Owner.the-variants.{Found, Stuck}
-use Rattle.report.specs.Answers.{answerOf as reportOf}
-use Rattle.report.specs.declared.Report.the-variants.{Audited}
+use Rattle.answers.specs.MemberCount.{answerOf as countOf}
+use Rattle.answers.specs.declared.member_count.MemberCount.the-variants.{Members, Declined}
+use Rattle.answers.specs.Step.{answerOf as stepOf}
+use Rattle.answers.specs.declared.step.Step.the-variants.{Again, Look, Done}
+use Rattle.answers.specs.Notice.{answerOf as noticeOf}
+use Rattle.answers.specs.declared.notice.Notice.the-variants.{New, Same}
+use Rattle.answers.specs.Found.{answerOf as foundOf}
+use Rattle.answers.specs.declared.found.Found.the-variants.{Owner, Stuck}
+use Rattle.answers.specs.Report.{answerOf as reportOf}
+use Rattle.answers.specs.declared.report.Report.the-variants.{Audited}
 
 -- what each call of a list answers
 abbrev pub answers : List Call → List ℕ → List Answer
@@ -40,11 +40,17 @@ first-line = refl
 
 -- its other lines, each with its reply; then a notice that changes nothing, and a loss that leaves 40 without a live entry: a find from it and a join by it
 abbrev pub lines : List Call
-lines = Join 25 20 ∷ Stabilize 25 ∷ Rectify 30 25 ∷ Stabilize 20 ∷ Stabilize 20 ∷ Audit ∷ Join 30 20 ∷ Leave 10 ∷ Leave 20 ∷ Stabilize 40 ∷ Lookup 30 15 ∷ Rectify 30 25 ∷ Fail 20 ∷ Lookup 40 15 ∷ Join 45 40 ∷ []
+lines = Join 25 20 ∷ Stabilize 25 ∷ Rectify 30 25 ∷ Stabilize 20 ∷ Stabilize 20 ∷ Audit ∷ Join 30 20 ∷ Leave 10 ∷ Leave 20 ∷ Stabilize 40 ∷ Lookup 30 15
+    ∷ Rectify 30 25 ∷ Fail 20 ∷ Lookup 40 15 ∷ Join 45 40 ∷ []
 
 abbrev pub replies : List Answer
-replies = countOf (Members 5) ∷ stepOf (Done 30) ∷ noticeOf New ∷ stepOf (Look 25) ∷ stepOf (Done 25) ∷ reportOf (Audited 5 4 5 1) ∷ countOf (Declined 2) ∷ countOf (Members 4) ∷ countOf (Declined 6) ∷ stepOf Again ∷ ownerOf (Found 20 40 1 0) ∷ noticeOf Same ∷ countOf (Members 3) ∷ ownerOf (Stuck 40) ∷ countOf (Declined 13) ∷ []
+replies = countOf (Members 5) ∷ stepOf (Done 30) ∷ noticeOf New ∷ stepOf (Look 25) ∷ stepOf (Done 25) ∷ reportOf (Audited 5 4 5 1) ∷ countOf (Declined 2)
+    ∷ countOf (Members 4) ∷ countOf (Declined 6) ∷ stepOf Again ∷ foundOf (Owner 20 40 1 0) ∷ noticeOf Same ∷ countOf (Members 3) ∷ foundOf (Stuck 40)
+    ∷ countOf (Declined 13) ∷ []
 
 session : answers lines (newWords room 2 four) ≡ replies
-unfolding between after formedMember formed wellFormed candidateInside sound idealMember ideal verdict stabilizeFromSuccessor stabilizeFromPredecessor stabilize stabilizeReply nextStep renews full cutsOff tooFewPrincipals noNewTable joinRefusal memberRefusal leaveRefusal auditRefusal newRefusal joinAnswer joinWords stabilizeAnswer stabilizeWords rectifyAnswer rectifyWords failAnswer failWords leaveAnswer leaveWords lookupAnswer auditAnswer newAnswer newWords callAnswer callWords space
+unfolding between after formedMember formed wellFormed candidateInside sound idealMember ideal verdict stabilizeFromSuccessor stabilizeFromPredecessor stabilize
+    stabilizeReply nextStep renews full cutsOff tooFewPrincipals noNewTable joinRefusal memberRefusal leaveRefusal auditRefusal newRefusal joinAnswer joinWords
+    stabilizeAnswer stabilizeWords rectifyAnswer rectifyWords failAnswer failWords leaveAnswer leaveWords lookupAnswer auditAnswer newAnswer newWords callAnswer
+    callWords space
 session = refl

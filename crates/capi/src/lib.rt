@@ -3,19 +3,19 @@ ghost use mathlib.Core.Path.{_≡_};
 ghost use Rattle.model.specs.Calls.{joinAnswer, joinWords, stabilizeAnswer, stabilizeWords, rectifyAnswer, rectifyWords, failAnswer, failWords, leaveAnswer, leaveWords, lookupAnswer, auditAnswer, newAnswer, newWords, alikeAnswer, writeAnswer, writeBytes, readAnswer, readWords, findingsAnswer, findingsAfter, heldAnswer, principalAnswer, roundAnswer, roundWords, settleAnswer, settleWords};
 ghost use Rattle.model.specs.Image.{fieldAt};
 ghost use Rattle.finding.specs.View.{views};
-ghost use Rattle.answer.specs.Packed.{packed};
-ghost use Rattle.runs.specs.Answers.{packed as packedRuns};
+ghost use Rattle.answers.specs.Packed.{packed};
+ghost use Rattle.answers.specs.Runs.{packed as packedRuns};
 ghost use Rattle.capi.specs.TakeOver.{takeOverAnswer};
-use answer::Answer;
+use answers::Answer;
+use answers::runs::RunsAnswer;
 use finding::Finding;
-use runs::RunsAnswer;
 
 // Join j by p.
 #[no_mangle]
 pub extern "C" fn ring_join(table: &mut [u32], j: u32, p: u32) -> Answer
     ensures { λ a. ⌜ (a ≡ packed (joinAnswer (now (table .entry)) j p)) × (now (table .exit) ≡ joinWords (now (table .entry)) j p) ⌝ }
 {
-    count::numbers(join::join(table, j, p))
+    answers::member_count::numbers(join::join(table, j, p))
 }
 
 // One stabilize step of n.
@@ -23,7 +23,7 @@ pub extern "C" fn ring_join(table: &mut [u32], j: u32, p: u32) -> Answer
 pub extern "C" fn ring_stabilize(table: &mut [u32], n: u32) -> Answer
     ensures { λ a. ⌜ (a ≡ packed (stabilizeAnswer (now (table .entry)) n)) × (now (table .exit) ≡ stabilizeWords (now (table .entry)) n) ⌝ }
 {
-    step::numbers(stabilize::stabilize(table, n))
+    answers::step::numbers(stabilize::stabilize(table, n))
 }
 
 // n rectifies with a notice from q.
@@ -31,7 +31,7 @@ pub extern "C" fn ring_stabilize(table: &mut [u32], n: u32) -> Answer
 pub extern "C" fn ring_rectify(table: &mut [u32], n: u32, q: u32) -> Answer
     ensures { λ a. ⌜ (a ≡ packed (rectifyAnswer (now (table .entry)) n q)) × (now (table .exit) ≡ rectifyWords (now (table .entry)) n q) ⌝ }
 {
-    notice::numbers(rectify::rectify(table, n, q))
+    answers::notice::numbers(rectify::rectify(table, n, q))
 }
 
 // Loss of n.
@@ -39,7 +39,7 @@ pub extern "C" fn ring_rectify(table: &mut [u32], n: u32, q: u32) -> Answer
 pub extern "C" fn ring_fail(table: &mut [u32], n: u32) -> Answer
     ensures { λ a. ⌜ (a ≡ packed (failAnswer (now (table .entry)) n)) × (now (table .exit) ≡ failWords (now (table .entry)) n) ⌝ }
 {
-    count::numbers(depart::fail(table, n))
+    answers::member_count::numbers(depart::fail(table, n))
 }
 
 // Withdrawal of n.
@@ -47,7 +47,7 @@ pub extern "C" fn ring_fail(table: &mut [u32], n: u32) -> Answer
 pub extern "C" fn ring_leave(table: &mut [u32], n: u32) -> Answer
     ensures { λ a. ⌜ (a ≡ packed (leaveAnswer (now (table .entry)) n)) × (now (table .exit) ≡ leaveWords (now (table .entry)) n) ⌝ }
 {
-    count::numbers(depart::leave(table, n))
+    answers::member_count::numbers(depart::leave(table, n))
 }
 
 // Find key k from the member n.
@@ -55,7 +55,7 @@ pub extern "C" fn ring_leave(table: &mut [u32], n: u32) -> Answer
 pub extern "C" fn ring_lookup(table: &[u32], n: u32, k: u32) -> Answer
     ensures { λ a. ⌜ a ≡ packed (lookupAnswer (now (table .entry)) n k) ⌝ }
 {
-    owner::numbers(lookup::lookup(table, n, k))
+    answers::found::numbers(lookup::lookup(table, n, k))
 }
 
 // Audit.
@@ -63,7 +63,7 @@ pub extern "C" fn ring_lookup(table: &[u32], n: u32, k: u32) -> Answer
 pub extern "C" fn ring_audit(table: &[u32]) -> Answer
     ensures { λ a. ⌜ a ≡ packed (auditAnswer (now (table .entry))) ⌝ }
 {
-    report::numbers(audit::audit(table))
+    answers::report::numbers(audit::audit(table))
 }
 
 // The new table of r and rising identifiers.
@@ -71,7 +71,7 @@ pub extern "C" fn ring_audit(table: &[u32]) -> Answer
 pub extern "C" fn ring_new(table: &mut [u32], r: u32, ids: &[u32]) -> Answer
     ensures { λ a. ⌜ (a ≡ packed (newAnswer (now (table .entry)) r (now (ids .entry)))) × (now (table .exit) ≡ newWords (now (table .entry)) r (now (ids .entry))) ⌝ }
 {
-    count::numbers(start::new(table, r, ids))
+    answers::member_count::numbers(new_table::new(table, r, ids))
 }
 
 // Are two tables alike?
@@ -79,7 +79,7 @@ pub extern "C" fn ring_new(table: &mut [u32], r: u32, ids: &[u32]) -> Answer
 pub extern "C" fn ring_alike(a: &[u32], b: &[u32]) -> Answer
     ensures { λ r. ⌜ r ≡ packed (alikeAnswer (now (a .entry)) (now (b .entry))) ⌝ }
 {
-    yes_no::numbers(alike::alike(a, b))
+    answers::yes_no::numbers(alike::alike(a, b))
 }
 
 // Which of two replies' lists to take over: 1 for c's and 0 for h's, and the length of its part.
@@ -116,7 +116,7 @@ pub extern "C" fn ring_take_over<'a>(
 pub extern "C" fn ring_image_write(table: &[u32], image: &mut [u8]) -> Answer
     ensures { λ a. ⌜ (a ≡ packed (writeAnswer (now (table .entry)) (now (image .entry)))) × (now (image .exit) ≡ writeBytes (now (table .entry)) (now (image .entry))) ⌝ }
 {
-    written::numbers(image::write(table, image))
+    answers::byte_count::numbers(image::write(table, image))
 }
 
 // Reads a whole image into a slice.
@@ -124,7 +124,7 @@ pub extern "C" fn ring_image_write(table: &[u32], image: &mut [u8]) -> Answer
 pub extern "C" fn ring_image_read(table: &mut [u32], image: &[u8]) -> Answer
     ensures { λ a. ⌜ (a ≡ packed (readAnswer (now (table .entry)) (now (image .entry)))) × (now (table .exit) ≡ readWords (now (table .entry)) (now (image .entry))) ⌝ }
 {
-    count::numbers(image::read(table, image))
+    answers::member_count::numbers(image::read(table, image))
 }
 
 // The field at a position of an image.
@@ -132,7 +132,7 @@ pub extern "C" fn ring_image_read(table: &mut [u32], image: &[u8]) -> Answer
 pub extern "C" fn ring_image_field(image: &[u8], position: usize) -> Answer
     ensures { λ a. ⌜ a ≡ packed (fieldAt (now (image .entry)) position) ⌝ }
 {
-    field::numbers(due::field_at(image, position))
+    answers::field::numbers(due::field_at(image, position))
 }
 
 // The audit, with one finding a member.
@@ -140,7 +140,7 @@ pub extern "C" fn ring_image_field(image: &[u8], position: usize) -> Answer
 pub extern "C" fn ring_findings(table: &[u32], out: &mut [Finding]) -> Answer
     ensures { λ a. ⌜ (a ≡ packed (findingsAnswer (now (table .entry)) (views (now (out .entry))))) × (views (now (out .exit)) ≡ findingsAfter (now (table .entry)) (views (now (out .entry)))) ⌝ }
 {
-    report::numbers(findings::findings(table, out))
+    answers::report::numbers(findings::findings(table, out))
 }
 
 // The runs of the keys that the member n holds.
@@ -148,7 +148,7 @@ pub extern "C" fn ring_findings(table: &[u32], out: &mut [Finding]) -> Answer
 pub extern "C" fn ring_held(table: &[u32], n: u32, keys: &[u32]) -> RunsAnswer
     ensures { λ a. ⌜ a ≡ packedRuns (heldAnswer (now (table .entry)) n (now (keys .entry))) ⌝ }
 {
-    runs::numbers(held::held(table, n, keys))
+    answers::runs::numbers(held::held(table, n, keys))
 }
 
 // Is the member n a principal, and how many pairs did the test take?
@@ -156,7 +156,7 @@ pub extern "C" fn ring_held(table: &[u32], n: u32, keys: &[u32]) -> RunsAnswer
 pub extern "C" fn ring_principal(table: &[u32], n: u32) -> Answer
     ensures { λ a. ⌜ a ≡ packed (principalAnswer (now (table .entry)) n) ⌝ }
 {
-    tested::numbers(principal_test::principal_test(table, n))
+    answers::tested::numbers(principal_test::principal_test(table, n))
 }
 
 // One round: the turn of each member.
@@ -164,7 +164,7 @@ pub extern "C" fn ring_principal(table: &[u32], n: u32) -> Answer
 pub extern "C" fn ring_round(table: &mut [u32]) -> Answer
     ensures { λ a. ⌜ (a ≡ packed (roundAnswer (now (table .entry)))) × (now (table .exit) ≡ roundWords (now (table .entry))) ⌝ }
 {
-    judged::numbers(settle::round(table))
+    answers::verdict::numbers(settle::round(table))
 }
 
 // Rounds until the table is ideal, at most so many.
@@ -172,5 +172,5 @@ pub extern "C" fn ring_round(table: &mut [u32]) -> Answer
 pub extern "C" fn ring_settle(table: &mut [u32], limit: u32) -> Answer
     ensures { λ a. ⌜ (a ≡ packed (settleAnswer (now (table .entry)) limit)) × (now (table .exit) ≡ settleWords (now (table .entry)) limit) ⌝ }
 {
-    settled::numbers(settle::settle(table, limit))
+    answers::settled::numbers(settle::settle(table, limit))
 }

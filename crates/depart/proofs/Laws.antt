@@ -17,39 +17,45 @@ use Rattle.laws.specs.Words.{members-length, words-read, words-written, written
 use Rattle.laws.specs.Tables.{wellFormed-facts, facts-wellFormed, holds-formed, formed-lists, writtenFreed-formed}
 use Rattle.laws.specs.Removed.{staying-formed, without-length, without-size}
 use Rattle.words.proofs.Records.{most-words}
-use Rattle.table.specs.Formed.{Formed}
-use Rattle.table.proofs.Formed.{formed}
+use Rattle.table.specs.FormedWords.{FormedWords}
+use Rattle.table.proofs.WellFormed.{formed-words}
 use Rattle.table.proofs.Members.{size-words}
 
 -- The words of a table, copied
 
-module _ (ws a : List ℕ) (f : Formed ws) (e : take (size (tableOf ws)) a ≡ take (size (tableOf ws)) ws) where
+module _ (ws a : List ℕ) (f : FormedWords ws) (e : take (size (tableOf ws)) a ≡ take (size (tableOf ws)) ws) where
   pub copied-table : tableOf a ≡ tableOf ws
   copied-table =
       let n : ℕ = size (tableOf ws) in
       let w = wellFormed-facts ws (f .right) in
-      sym (ap tableOf (take-append-drop n a)) ∙ ap (λ (l : List ℕ). tableOf (l ++ drop n a)) (e ∙ sym (words-written ws (w .header) (w .fits))) ∙ words-read (tableOf ws) (drop n a) (formed-lists (tableOf ws) (w .table))
+      sym (ap tableOf (take-append-drop n a)) ∙ ap (λ (l : List ℕ). tableOf (l ++ drop n a)) (e ∙ sym (words-written ws (w .header) (w .fits)))
+      ∙ words-read (tableOf ws) (drop n a) (formed-lists (tableOf ws) (w .table))
 
   pub copied-count : getD a 1 0 ≡ getD ws 1 0
-  copied-count = sym (members-length (getD a 0 0) (getD a 1 0) (drop headerSize a)) ∙ (ap (λ (T : Table). length (T .members)) copied-table ∙ members-length (getD ws 0 0) (getD ws 1 0) (drop headerSize ws))
+  copied-count = sym (members-length (getD a 0 0) (getD a 1 0) (drop headerSize a))
+      ∙ (ap (λ (T : Table). length (T .members)) copied-table ∙ members-length (getD ws 0 0) (getD ws 1 0) (drop headerSize ws))
 
-  pub copied-formed : length a ≡ headerSize + 256 * recordSize 8 → Formed a
+  pub copied-formed : length a ≡ headerSize + 256 * recordSize 8 → FormedWords a
   copied-formed h =
       let m = most-words (getD ws 1 0) (getD ws 0 0) (f .few) (f .r-high) in
-      formed a (facts-wellFormed a (holds-formed (tableOf ws) a copied-table (wellFormed-facts ws (f .right) .table) (omega (arith, size-words ws))))
+      formed-words a (facts-wellFormed a (holds-formed (tableOf ws) a copied-table (wellFormed-facts ws (f .right) .table) (omega (arith, size-words ws))))
 
 -- The record of a member, removed
 
-pub one-fewer : (ws : List ℕ) (n : ℕ) → Formed ws → live (membersIn ws) n ≡ true → suc (length (without n (tableOf ws) .members)) ≡ getD ws 1 0
+pub one-fewer : (ws : List ℕ) (n : ℕ) → FormedWords ws → live (membersIn ws) n ≡ true → suc (length (without n (tableOf ws) .members)) ≡ getD ws 1 0
 one-fewer ws n f l = without-length n (membersIn ws) (wellFormed-facts ws (f .right) .table .ids-rising) (live-in (membersIn ws) n l) ∙ members-length (getD ws 0 0) (getD ws 1 0) (drop headerSize ws)
 
-pub removed-facts : (ws : List ℕ) (n : ℕ) → Formed ws → live (membersIn ws) n ≡ true → Formed (writtenFreed (without n (tableOf ws)) ws) × (tableOf (writtenFreed (without n (tableOf ws)) ws) ≡ without n (tableOf ws))
+pub removed-facts : (ws : List ℕ) (n : ℕ) → FormedWords ws → live (membersIn ws) n ≡ true
+    → FormedWords (writtenFreed (without n (tableOf ws)) ws) × (tableOf (writtenFreed (without n (tableOf ws)) ws) ≡ without n (tableOf ws))
 removed-facts ws n f l =
     let i = live-in (membersIn ws) n l in
     let w = wellFormed-facts ws (f .right) in
     let T : Table = without n (tableOf ws) in
-    let k = staying-formed (isNamed n) (tableOf ws) (w .table) in
-    (formed (writtenFreed T ws) (facts-wellFormed (writtenFreed T ws) (writtenFreed-formed T ws k (omega (arith, without-size n (tableOf ws) (w .table) i, w .fits)))), writtenFreed-table T ws (formed-lists T k))
+    let k = staying-formed (isNamed n) (tableOf ws) (w .table) in (
+      formed-words (writtenFreed T ws) (facts-wellFormed (writtenFreed T ws)
+          (writtenFreed-formed T ws k (omega (arith, without-size n (tableOf ws) (w .table) i, w .fits)))),
+      writtenFreed-table T ws (formed-lists T k),
+    )
 
 -- The causes of a withdrawal
 
@@ -58,6 +64,7 @@ unfolding leaveRefusal
 member-refused ws n h = causes-declined ws n ((6 when cutsOff (without n (tableOf ws))) ∷ (7 when tooFewPrincipals (without n (tableOf ws))) ∷ []) h
 
 -- the causes that are left are judged on a slice that holds the table as it would be afterwards
-pub left-causes : (ws a : List ℕ) (n : ℕ) → Formed ws → live (membersIn ws) n ≡ true → tableOf a ≡ without n (tableOf ws) → leaveRefusal ws n ≡ firstOf ((6 when cutsOff (tableOf a)) ∷ (7 when tooFewPrincipals (tableOf a)) ∷ [])
+pub left-causes : (ws a : List ℕ) (n : ℕ) → FormedWords ws → live (membersIn ws) n ≡ true → tableOf a ≡ without n (tableOf ws)
+    → leaveRefusal ws n ≡ firstOf ((6 when cutsOff (tableOf a)) ∷ (7 when tooFewPrincipals (tableOf a)) ∷ [])
 unfolding leaveRefusal
 left-causes ws a n f l e = rw (f .right, l) (ap (λ (T : Table). firstOf ((6 when cutsOff T) ∷ (7 when tooFewPrincipals T) ∷ [])) (sym e))

@@ -8,19 +8,19 @@ ghost use Rattle.model.specs.Steps.{without};
 ghost use Rattle.model.specs.Answer.{accepted, firstOf, _when_};
 ghost use Rattle.model.specs.Refusals.{cutsOff, tooFewPrincipals, leaveRefusal};
 ghost use Rattle.model.specs.Calls.{writtenFreed, failAnswer, failWords, leaveAnswer, leaveWords};
-ghost use Rattle.table.specs.Formed.{Formed};
-ghost use Rattle.count.specs.Answers.{answerOf};
-use count::Count;
-use refusal::Standing;
+ghost use Rattle.table.specs.FormedWords.{FormedWords};
+ghost use Rattle.answers.specs.MemberCount.{answerOf};
+use answers::member_count::MemberCount;
+use standing::Standing;
 
 // The words of the table, copied: a withdrawal is tried on them first.
 fn copy_table(a: &mut [u32; words::LONGEST], t: &[u32])
-    requires { ⌜ Formed (now t) ⌝ }
+    requires { ⌜ FormedWords (now t) ⌝ }
     requires { ⌜ length (now a) ≡ headerSize + 256 * recordSize 8 ⌝ }
     ensures { λ _. ⌜ (take (size (tableOf (now (t .entry)))) (now (a .exit)) ≡ take (size (tableOf (now (t .entry)))) (now (t .entry))) × (length (now (a .exit)) ≡ headerSize + 256 * recordSize 8) ⌝ }
 {
-    let r = t[0] as usize;
-    let n = t[1] as usize;
+    let r = t[words::R] as usize;
+    let n = t[words::COUNT] as usize;
     let end = words::offset(r, n);
     let mut i = 0;
     while i < end {
@@ -31,12 +31,12 @@ fn copy_table(a: &mut [u32; words::LONGEST], t: &[u32])
 
 // Why a withdrawal may not leave this table: 6 or 7, or 0.
 fn causes(t: &[u32]) -> u32
-    requires { ⌜ Formed (now t) ⌝ }
+    requires { ⌜ FormedWords (now t) ⌝ }
     ensures { λ k. ⌜ k ≡ firstOf ((6 when cutsOff (tableOf (now (t .entry)))) ∷ (7 when tooFewPrincipals (tableOf (now (t .entry)))) ∷ []) ⌝ }
 {
-    let r = t[0] as usize;
-    let best = ring::best_places(t);
-    if ring::all_live(t, &best) {
+    let r = t[words::R] as usize;
+    let best = best_successors::best_places(t);
+    if best_successors::all_live(t, &best) {
         let count = principal::count_principals(t);
         if r < count {
             return 0;
@@ -48,7 +48,7 @@ fn causes(t: &[u32]) -> u32
 
 // Why the member at place k cannot leave, judged on the table as it would be afterwards: 6 or 7, or 0.
 fn judged(t: &[u32], k: usize) -> u32
-    requires { ⌜ Formed (now t) ⌝ }
+    requires { ⌜ FormedWords (now t) ⌝ }
     requires { ⌜ k < getD (now t) 1 0 ⌝ }
     ensures { λ c. ⌜ c ≡ leaveRefusal (now (t .entry)) (getD (ids (membersIn (now (t .entry)))) k 0) ⌝ }
 {
@@ -60,45 +60,47 @@ fn judged(t: &[u32], k: usize) -> u32
 }
 
 // The record at place k goes: the member count afterwards.
-fn gone(t: &mut [u32], k: usize) -> Count
-    requires { ⌜ Formed (now t) ⌝ }
+fn gone(t: &mut [u32], k: usize) -> MemberCount
+    requires { ⌜ FormedWords (now t) ⌝ }
     requires { ⌜ k < getD (now t) 1 0 ⌝ }
-    ensures { λ a. ⌜ (answerOf a ≡ accepted (length (without (getD (ids (membersIn (now (t .entry)))) k 0) (tableOf (now (t .entry))) .members) ∷ [])) × (now (t .exit) ≡ writtenFreed (without (getD (ids (membersIn (now (t .entry)))) k 0) (tableOf (now (t .entry)))) (now (t .entry))) ⌝ }
+    ensures { λ a. ⌜ (answerOf a ≡ accepted (length (without (getD (ids (membersIn (now (t .entry)))) k 0) (tableOf (now (t .entry))) .members) ∷ []))
+        × (now (t .exit) ≡ writtenFreed (without (getD (ids (membersIn (now (t .entry)))) k 0) (tableOf (now (t .entry)))) (now (t .entry))) ⌝ }
 {
-    let m = t[1];
+    let m = t[words::COUNT];
     records::remove_at(t, k);
-    Count::Members(m - 1)
+    MemberCount::Members(m - 1)
 }
 
 // The member at place k leaves, if it may.
-fn leave_at(t: &mut [u32], k: usize) -> Count
-    requires { ⌜ Formed (now t) ⌝ }
+fn leave_at(t: &mut [u32], k: usize) -> MemberCount
+    requires { ⌜ FormedWords (now t) ⌝ }
     requires { ⌜ k < getD (now t) 1 0 ⌝ }
-    ensures { λ a. ⌜ (answerOf a ≡ leaveAnswer (now (t .entry)) (getD (ids (membersIn (now (t .entry)))) k 0)) × (now (t .exit) ≡ leaveWords (now (t .entry)) (getD (ids (membersIn (now (t .entry)))) k 0)) ⌝ }
+    ensures { λ a. ⌜ (answerOf a ≡ leaveAnswer (now (t .entry)) (getD (ids (membersIn (now (t .entry)))) k 0))
+        × (now (t .exit) ≡ leaveWords (now (t .entry)) (getD (ids (membersIn (now (t .entry)))) k 0)) ⌝ }
 {
     let c = judged(t, k);
     if c != 0 {
-        return Count::Declined(c);
+        return MemberCount::Declined(c);
     }
     gone(t, k)
 }
 
 // Loss of n: the member count afterwards, or 1 or 3 with the table unchanged.
-pub fn fail(t: &mut [u32], n: u32) -> Count
+pub fn fail(t: &mut [u32], n: u32) -> MemberCount
     ensures { λ a. ⌜ (answerOf a ≡ failAnswer (now (t .entry)) n) × (now (t .exit) ≡ failWords (now (t .entry)) n) ⌝ }
 {
-    match refusal::standing_of(t, n) {
+    match standing::standing_of(t, n) {
         Standing::At(k) => gone(t, k),
-        Standing::Declined(c) => Count::Declined(c),
+        Standing::Declined(c) => MemberCount::Declined(c),
     }
 }
 
 // Withdrawal of n: the member count afterwards, or 1, 3, 6 or 7 with the table unchanged.
-pub fn leave(t: &mut [u32], n: u32) -> Count
+pub fn leave(t: &mut [u32], n: u32) -> MemberCount
     ensures { λ a. ⌜ (answerOf a ≡ leaveAnswer (now (t .entry)) n) × (now (t .exit) ≡ leaveWords (now (t .entry)) n) ⌝ }
 {
-    match refusal::standing_of(t, n) {
+    match standing::standing_of(t, n) {
         Standing::At(k) => leave_at(t, k),
-        Standing::Declined(c) => Count::Declined(c),
+        Standing::Declined(c) => MemberCount::Declined(c),
     }
 }

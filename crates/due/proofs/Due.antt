@@ -22,7 +22,8 @@ pub most-due : (n r : ℕ) → n < 65536 → r < 256 → n * fieldSize r ≤ 655
 most-due n r hn hr = let a : n ≤ 65535 = omega arith in let b : fieldSize r ≤ fieldSize 255 = omega arith in mul-le-mul a b
 
 -- a field stands if its head does
-pub stands : (bs : List ℕ) (at tag len : ℕ) (b : Bool) → at + fieldHead + len ≤ length bs → headIs (take (length bs - at) (drop at bs)) tag len ≡ b → fieldStands bs at (record { tag = tag; length = len }) ≡ b
+pub stands : (bs : List ℕ) (at tag len : ℕ) (b : Bool) → at + fieldHead + len ≤ length bs → headIs (take (length bs - at) (drop at bs)) tag len ≡ b
+    → fieldStands bs at (record { tag = tag; length = len }) ≡ b
 unfolding fieldStands
 stands bs at tag len b l e = rw (le-leb (at + fieldHead + len) (length bs) l, ← e, part-from at bs, getD-drop, drop-drop, add-zero)
 

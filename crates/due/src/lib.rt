@@ -2,8 +2,8 @@
 ghost use mathlib.Core.Path.{_≡_};
 ghost use Prim.Native.Nat.{_≤_};
 ghost use Rattle.model.specs.Image.{fieldAt, fieldReply};
-ghost use Rattle.field.specs.Answers.{answerOf};
-use field::Field;
+ghost use Rattle.answers.specs.Field.{answerOf};
+use answers::field::Field;
 
 // The answer where a field of this tag and length is due at a position.
 fn field_here(image: &[u8], at: usize, tag: u8, len: usize) -> Field
@@ -36,7 +36,7 @@ pub fn field_at(image: &[u8], at: usize) -> Field
     }
     if fields::head_is(image, fields::FIRST, fields::HEADER) {
         let r = fields::image_r(image);
-        let w = fields::field_size(words::width(r));
+        let w = fields::field_size(words::record_size(r));
         let all = fields::image_count(image) * w;
         let o = at - fields::MEMBERS;
         if o == all {

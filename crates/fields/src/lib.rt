@@ -1,4 +1,4 @@
-// The fields of an image: their sizes and heads, the first field, and one member's. For `judge`, `image` and `due`; a caller of the library uses none of this.
+// The fields of an image: their sizes and heads, the first field, and one member's. For `image_test`, `image` and `due`; a caller of the library uses none of this.
 ghost use mathlib.Core.Path.{_≡_};
 ghost use mathlib.Core.List.{_∷_};
 ghost use Prim.Native.Nat.{ℕ, _+_, _≤_, _<_};
@@ -58,7 +58,7 @@ pub fn member_length(r: usize) -> usize
     requires { ⌜ r ≤ 255 ⌝ }
     ensures { λ n. ⌜ n ≡ memberLength r ⌝ }
 {
-    field_size(words::width(r)) - HEAD
+    field_size(words::record_size(r)) - HEAD
 }
 
 // The bytes of an image with n members and lists of length r.
@@ -66,7 +66,7 @@ pub fn image_size(r: usize, n: usize) -> usize
     requires { ⌜ (r ≤ 8) × (n ≤ 256) ⌝ }
     ensures { λ s. ⌜ (s ≡ imageSize r n) × (s ≤ imageSize 8 256) ⌝ }
 {
-    MEMBERS + HEAD + n * field_size(words::width(r))
+    MEMBERS + HEAD + n * field_size(words::record_size(r))
 }
 
 // Does a field of this tag and length begin at the front?
@@ -158,7 +158,7 @@ pub fn write_field(out: &mut [u8], at: usize, ws: &[u32], r: usize)
 {
     put_head(out, at, MEMBER, member_length(r));
     octets::put_words(out, at + ID, &ws[0..2]);
-    out[at + PENDING] = (ws[2] % 256) as u8;
+    out[at + PENDING] = (ws[words::PENDING] % 256) as u8;
     octets::put_words(out, at + CANDIDATE, &ws[3..]);
 }
 
@@ -169,5 +169,5 @@ pub fn read_field(t: &mut [u32], at: usize, bs: &[u8], r: usize)
 {
     octets::get_words(t, at, &bs[ID..], 2);
     t[at + 2] = bs[PENDING] as u32;
-    octets::get_words(t, at + 3, &bs[CANDIDATE..], words::width(r) - 3);
+    octets::get_words(t, at + 3, &bs[CANDIDATE..], words::record_size(r) - 3);
 }

@@ -16,8 +16,8 @@ use Rattle.model.specs.Steps.{auditReply}
 use Rattle.model.specs.Refusals.{findingsRefusal}
 use Rattle.laws.specs.Accepted.{declined-answer, unchanged}
 use Rattle.table.proofs.Members.{ids-count}
-use Rattle.ring.proofs.Laws.{member-count}
-use Rattle.report.specs.Answers.{answerOf}
+use Rattle.best_successors.proofs.Laws.{member-count}
+use Rattle.answers.specs.Report.{answerOf}
 use Rattle.finding.specs.declared.Survey.{Survey}
 use Rattle.places.specs.Each.{Each}
 use Rattle.places.proofs.Arrays.{each-counted, each-none}
@@ -57,7 +57,12 @@ module _ (ws : List ℕ) where
     module _ (s : Survey) where
       pub declined-survey : (k : ℕ) → (k ≡ 0 → ⊥) → findingsRefusal ws room ≡ k → s .members ≡ 0 → answerOf (s .reply) ≡ declined k → Prepared ws room s
       declined-survey k z e m a = record {
-        right = record { table = λ h. absurd (omega arith); most = omega arith; principals = rw m (each-none ms (principalBit ms) (s .principal)); ways = rw m (each-none ms (movesToRing ms) (s .moves)) };
+        right = record {
+          table = λ h. absurd (omega arith);
+          most = omega arith;
+          principals = rw m (each-none ms (principalBit ms) (s .principal));
+          ways = rw m (each-none ms (movesToRing ms) (s .moves));
+        };
         members = m ∙ rw e (ap length (unchanged k ms [] z));
         within = omega arith;
         reply = a ∙ rw e (declined-answer k (accepted (auditReply (tableOf ws))) z);

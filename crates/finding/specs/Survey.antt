@@ -8,15 +8,15 @@ use Rattle.model.specs.Ring.{movesToRing}
 use Rattle.model.specs.Answer.{accepted, answer, afterwards}
 use Rattle.model.specs.Steps.{auditReply}
 use Rattle.model.specs.Refusals.{findingsRefusal}
-use Rattle.table.specs.Formed.{Formed}
+use Rattle.table.specs.FormedWords.{FormedWords}
 use Rattle.places.specs.Each.{Each}
 use Rattle.principal.specs.Marks.{principalBit}
-use Rattle.report.specs.Answers.{answerOf}
+use Rattle.answers.specs.Report.{answerOf}
 use Rattle.finding.specs.declared.Survey.{Survey}
 
 -- a survey has the numbers of the members that it counts, and counts some only in a well-formed table
 pub record Surveyed (ws : List ℕ) (s : Survey) : Type 0 where
-  pub table : 0 < s .members → Formed ws
+  pub table : 0 < s .members → FormedWords ws
   pub most : s .members ≤ getD ws 1 0
   pub principals : Each (membersIn ws) (principalBit (membersIn ws)) (s .members) (s .principal)
   pub ways : Each (membersIn ws) (movesToRing (membersIn ws)) (s .members) (s .moves)

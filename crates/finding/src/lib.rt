@@ -7,12 +7,12 @@ ghost use Rattle.model.specs.Ring.{movesToRing};
 ghost use Rattle.model.specs.Findings.{findingOf};
 ghost use Rattle.model.specs.Answer.{accepted, declined as declinedBy};
 ghost use Rattle.model.specs.Steps.{auditReply};
-ghost use Rattle.table.specs.Formed.{Formed};
+ghost use Rattle.table.specs.FormedWords.{FormedWords};
 ghost use Rattle.principal.specs.Marks.{principalBit};
-ghost use Rattle.report.specs.Answers.{answerOf};
+ghost use Rattle.answers.specs.Report.{answerOf};
 ghost use Rattle.finding.specs.View.{view};
 ghost use Rattle.finding.specs.Survey.{Surveyed, Prepared};
-use report::Report;
+use answers::report::Report;
 
 // One member's finding: identifier, 1 for a principal and else 0, moves to the ring (0 on it; the member count if the walk never comes there).
 #[repr(C)]
@@ -36,11 +36,11 @@ pub struct Survey {
 
 // The survey of a well-formed table: all its members. Those on the ring are those with no move to make.
 fn survey_of(t: &[u32]) -> Survey
-    requires { ⌜ Formed (now t) ⌝ }
+    requires { ⌜ FormedWords (now t) ⌝ }
     ensures { λ s. ⌜ Surveyed (now (t .entry)) s × (s .members ≡ getD (now (t .entry)) 1 0) × (answerOf (s .reply) ≡ accepted (auditReply (tableOf (now (t .entry))))) ⌝ }
 {
-    let n = t[1] as usize;
-    let best = ring::best_places(t);
+    let n = t[words::COUNT] as usize;
+    let best = best_successors::best_places(t);
     let moves = moves::all_moves(t, &best);
     let principal = principal::principal_bits(t);
     let on = places::count_of(&moves, n, 0);
@@ -72,7 +72,7 @@ pub fn prepare(t: &[u32], room: usize) -> Survey
     ensures { λ s. ⌜ Prepared (now (t .entry)) room s ⌝ }
 {
     if table::well_formed(t) {
-        let n = t[1] as usize;
+        let n = t[words::COUNT] as usize;
         if room < n {
             return declined(10);
         }
@@ -83,11 +83,12 @@ pub fn prepare(t: &[u32], room: usize) -> Survey
 
 // The finding of the member at place k, of its two numbers in a survey.
 pub fn finding_at(t: &[u32], principal: u16, moves: u16, k: usize) -> Finding
-    requires { ⌜ Formed (now t) × (k < getD (now t) 1 0) × (principal ≡ principalBit (membersIn (now t)) (getD (ids (membersIn (now t))) k 0)) × (moves ≡ movesToRing (membersIn (now t)) (getD (ids (membersIn (now t))) k 0)) ⌝ }
+    requires { ⌜ FormedWords (now t) × (k < getD (now t) 1 0) × (principal ≡ principalBit (membersIn (now t)) (getD (ids (membersIn (now t))) k 0))
+        × (moves ≡ movesToRing (membersIn (now t)) (getD (ids (membersIn (now t))) k 0)) ⌝ }
     ensures { λ f. ⌜ view f ≡ findingOf (membersIn (now (t .entry))) (getD (ids (membersIn (now (t .entry)))) k 0) ⌝ }
 {
     Finding {
-        id: ring::id_at(t, k),
+        id: best_successors::id_at(t, k),
         principal: principal as u32,
         moves: moves as u32,
     }

@@ -19,7 +19,7 @@ use Rattle.model.specs.Refusals.{findingsRefusal}
 use Rattle.model.specs.Calls.{findingsAnswer, findingsAfter}
 use Rattle.laws.specs.Lists.{length-ids}
 use Rattle.laws.specs.Accepted.{none-applies}
-use Rattle.table.specs.Formed.{Formed}
+use Rattle.table.specs.FormedWords.{FormedWords}
 use Rattle.principal.specs.Marks.{principalBit}
 use Rattle.finding.specs.declared.Finding.{Finding}
 use Rattle.finding.specs.View.{view, views}
@@ -29,7 +29,8 @@ use Rattle.findings.specs.Filled.{asRecord, recordAt, filled}
 
 -- what `finding_at` asks of place k and of the two numbers there
 abbrev pub Asked : List ℕ → ℕ → ℕ → ℕ → Type 0
-Asked ws principal moves k = Formed ws × (k < getD ws 1 0) × (principal ≡ principalBit (membersIn ws) (getD (ids (membersIn ws)) k 0)) × (moves ≡ movesToRing (membersIn ws) (getD (ids (membersIn ws)) k 0))
+Asked ws principal moves k = FormedWords ws × (k < getD ws 1 0) × (principal ≡ principalBit (membersIn ws) (getD (ids (membersIn ws)) k 0))
+    × (moves ≡ movesToRing (membersIn ws) (getD (ids (membersIn ws)) k 0))
 
 -- a survey has it for each member that it counts
 pub surveyed-at : (ws : List ℕ) (s : Survey) → Surveyed ws s → (k : ℕ) → k < s .members → Asked ws (getD (s .principal) k 0) (getD (s .moves) k 0) k

@@ -66,5 +66,6 @@ module _ {M : Type 1} (𝓤 : URA M) (H : Heap 𝓤) (A : Atoms 𝓤) (W : Given
   unfolding partOf
   let-go xs l is =
       qed W (‵ (row u16 fullShare xs l 0) ∷ []) ∵ feqI ! ℕ (length xs) 256 (field-length xs is) $ fjoin ! $
-      use1 W (‵ (partAt Numbers fullShare xs l 0)) (array-whole 𝓤 H A W u16 fullShare 256 xs l 0) $ fpick ! (λ vs. fsplit ! $ move ! (1 ∷ []) $ peeks ! Numbers (Is Numbers) (shows 𝓤 H A Numbers) xs vs (λ p. drop ! $
+      use1 W (‵ (partAt Numbers fullShare xs l 0)) (array-whole 𝓤 H A W u16 fullShare 256 xs l 0)
+      $ fpick ! (λ vs. fsplit ! $ move ! (1 ∷ []) $ peeks ! Numbers (Is Numbers) (shows 𝓤 H A Numbers) xs vs (λ p. drop ! $
       rewrite ! 0 (λ (us : List Val). ‵ (cellAt fullShare (Numbers .mir) us l 0)) (array-tells u16 (uint-vals w16) (uint-tells w16) 256 xs vs p) refl $ forget ! 0 refl $ done !))

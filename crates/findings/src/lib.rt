@@ -4,13 +4,13 @@ ghost use Prim.Native.Nat.{_≤_};
 ghost use lib.ListN.{length};
 ghost use Rattle.model.specs.Table.{membersIn};
 ghost use Rattle.model.specs.Calls.{findingsAnswer, findingsAfter};
-ghost use Rattle.report.specs.Answers.{answerOf};
+ghost use Rattle.answers.specs.Report.{answerOf};
 ghost use Rattle.finding.specs.View.{views};
 ghost use Rattle.finding.specs.Survey.{Surveyed};
 ghost use Rattle.findings.specs.Filled.{filled};
+use answers::report::Report;
 use finding::Finding;
 use finding::Survey;
-use report::Report;
 
 // The findings that a survey counts, each in its place; later records stay.
 fn fill(t: &[u32], s: Survey, out: &mut [Finding])

@@ -14,9 +14,9 @@ use Rattle.model.specs.Refusals.{memberRefusal, heldRefusal}
 use Rattle.laws.specs.Lists.{rising-true}
 use Rattle.laws.specs.Places.{below-round, below-inside}
 use Rattle.laws.specs.Accepted.{causes-declined, causes-left}
-use Rattle.table.specs.Formed.{Formed}
+use Rattle.table.specs.FormedWords.{FormedWords}
 use Rattle.table.proofs.Members.{ids-count}
-use Rattle.ring.proofs.Laws.{same-place}
+use Rattle.best_successors.proofs.Laws.{same-place}
 
 -- The causes after 1 and 3
 
@@ -31,7 +31,7 @@ module _ (ws : List ℕ) (n : ℕ) (ks : List ℕ) where
 
 -- The runs
 
-module _ (ws ks : List ℕ) (f : Formed ws) (at : ℕ) (h : at < getD ws 1 0) where
+module _ (ws ks : List ℕ) (f : FormedWords ws) (at : ℕ) (h : at < getD ws 1 0) where
   abbrev xs : List ℕ
   xs = ids (membersIn ws)
 
@@ -39,14 +39,16 @@ module _ (ws ks : List ℕ) (f : Formed ws) (at : ℕ) (h : at < getD ws 1 0) wh
   inside = omega (arith, ids-count ws)
 
   -- of the lowest member, with the keys at or below the last
-  pub two-runs : (above own : ℕ) → at < 1 → above ≡ keysTo ks (getD xs (getD ws 1 0 - 1) 0) → own ≡ keysTo ks (getD xs at 0) → accepted (above ∷ length ks ∷ 0 ∷ own ∷ []) ≡ accepted (bounds (runsOf (membersIn ws) (getD xs at 0) ks))
+  pub two-runs : (above own : ℕ) → at < 1 → above ≡ keysTo ks (getD xs (getD ws 1 0 - 1) 0) → own ≡ keysTo ks (getD xs at 0)
+      → accepted (above ∷ length ks ∷ 0 ∷ own ∷ []) ≡ accepted (bounds (runsOf (membersIn ws) (getD xs at 0) ks))
   unfolding runsOf
   two-runs above own l u v =
       let z : at ≡ 0 = omega arith in
       rw (eq-eqb (getD xs at 0) (lowest (membersIn ws)) (ap (λ (i : ℕ). getD xs i 0) z), ← below-round xs (f .rises) at inside l, ids-count ws, ← u, ← v)
 
   -- of any other, with those at or below the one before
-  pub one-run : (before own : ℕ) → 1 ≤ at → before ≡ keysTo ks (getD xs (at - 1) 0) → own ≡ keysTo ks (getD xs at 0) → accepted (before ∷ own ∷ []) ≡ accepted (bounds (runsOf (membersIn ws) (getD xs at 0) ks))
+  pub one-run : (before own : ℕ) → 1 ≤ at → before ≡ keysTo ks (getD xs (at - 1) 0) → own ≡ keysTo ks (getD xs at 0)
+      → accepted (before ∷ own ∷ []) ≡ accepted (bounds (runsOf (membersIn ws) (getD xs at 0) ks))
   unfolding runsOf
   one-run before own l u v =
       let n : getD xs at 0 ≡ lowest (membersIn ws) → ⊥ = λ e. omega (arith, same-place xs at 0 (rising-true xs (f .rises)) inside (omega (arith, inside)) e) in

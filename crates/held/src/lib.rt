@@ -8,29 +8,29 @@ ghost use Rattle.model.specs.Table.{membersIn, ids};
 ghost use Rattle.model.specs.Answer.{accepted};
 ghost use Rattle.model.specs.Held.{runsOf, bounds};
 ghost use Rattle.model.specs.Calls.{heldAnswer};
-ghost use Rattle.table.specs.Formed.{Formed};
-ghost use Rattle.runs.specs.Answers.{answerOf};
-use refusal::Standing;
-use runs::Run;
-use runs::Runs;
+ghost use Rattle.table.specs.FormedWords.{FormedWords};
+ghost use Rattle.answers.specs.Runs.{answerOf};
+use answers::runs::Run;
+use answers::runs::Runs;
+use standing::Standing;
 
 // The runs of the member at a place: two of the lowest, one of any other.
 fn runs_at(t: &[u32], at: usize, ks: &[u32]) -> Runs
-    requires { ⌜ Formed (now t) ⌝ }
+    requires { ⌜ FormedWords (now t) ⌝ }
     requires { ⌜ at < getD (now t) 1 0 ⌝ }
     requires { ⌜ rising (now ks) ≡ true ⌝ }
     ensures { λ a. ⌜ answerOf a ≡ accepted (bounds (runsOf (membersIn (now (t .entry))) (getD (ids (membersIn (now (t .entry)))) at 0) (now (ks .entry)))) ⌝ }
 {
-    let own = rising::keys_to(ks, ring::id_at(t, at));
+    let own = rising::keys_to(ks, best_successors::id_at(t, at));
     if at < 1 {
-        let last = t[1] as usize - 1;
+        let last = t[words::COUNT] as usize - 1;
         let above = Run {
-            start: rising::keys_to(ks, ring::id_at(t, last)),
+            start: rising::keys_to(ks, best_successors::id_at(t, last)),
             end: ks.len(),
         };
         return Runs::Two(above, Run { start: 0, end: own });
     }
-    let before = rising::keys_to(ks, ring::id_at(t, at - 1));
+    let before = rising::keys_to(ks, best_successors::id_at(t, at - 1));
     Runs::One(Run {
         start: before,
         end: own,
@@ -41,7 +41,7 @@ fn runs_at(t: &[u32], at: usize, ks: &[u32]) -> Runs
 pub fn held(t: &[u32], n: u32, ks: &[u32]) -> Runs
     ensures { λ a. ⌜ answerOf a ≡ heldAnswer (now (t .entry)) n (now (ks .entry)) ⌝ }
 {
-    match refusal::standing_of(t, n) {
+    match standing::standing_of(t, n) {
         Standing::At(at) => {
             if rising::is_rising(ks) {
                 return runs_at(t, at, ks);

@@ -15,12 +15,12 @@ use Rattle.model.specs.Ring.{nobody, nextUp, nextDown, nextUps, idealMember, id
 use Rattle.laws.specs.Lists.{rising-true, ids-take, ids-drop}
 use Rattle.laws.specs.Places.{next-ups-place, above-inside, above-round, below-inside, below-round}
 use Rattle.laws.specs.Words.{members-length}
-use Rattle.table.specs.Formed.{Formed}
+use Rattle.table.specs.FormedWords.{FormedWords}
 use Rattle.table.proofs.Members.{span, members-take, members-drop, id-of, ids-count, whole}
 
 -- The neighbours of the member at place k
 
-module _ (ws : List ℕ) (f : Formed ws) (k : ℕ) (h : k < getD ws 1 0) where
+module _ (ws : List ℕ) (f : FormedWords ws) (k : ℕ) (h : k < getD ws 1 0) where
   within : k < length (ids (membersIn ws))
   within = omega (arith, ids-count ws)
 
@@ -70,15 +70,24 @@ first-record r (u ∷ p) ws h = refl
 
 -- The members above place k, where there are as many as a list has entries
 
-module _ (ws : List ℕ) (f : Formed ws) (k at n : ℕ) (few : k + 1 + n ≤ getD ws 1 0) (e : at ≡ headerSize + (k + 1) * recordSize (getD ws 0 0)) where
+module _ (ws : List ℕ) (f : FormedWords ws) (k at n : ℕ) (few : k + 1 + n ≤ getD ws 1 0) (e : at ≡ headerSize + (k + 1) * recordSize (getD ws 0 0)) where
   pub ahead : ids (membersOf (getD ws 0 0) n (drop at ws)) ≡ nextUps n (ids (membersIn ws)) (getD (ids (membersIn ws)) k 0)
   ahead =
       let r : ℕ = getD ws 0 0 in
       let c : ℕ = getD ws 1 0 in
       let s : k + 1 ≡ suc k = omega arith in
       let l = ids-count ws in
-      rw (e, ← drop-drop ((k + 1) * recordSize r) headerSize ws, ← members-take r n (c - (k + 1)) (drop ((k + 1) * recordSize r) (drop headerSize ws)) (omega arith), ← members-drop r (k + 1) c (drop headerSize ws) (omega arith))
-      (ids-take n _ ∙ ap (take n) (ids-drop (k + 1) _) ∙ rw (s, next-ups-place (ids (membersIn ws)) (rising-true (ids (membersIn ws)) (f .rises)) n k (omega arith) (omega arith), take-append-le n (drop (suc k) (ids (membersIn ws))) (ids (membersIn ws)) (simp length-drop (omega arith))))
+      rw (
+        e,
+        ← drop-drop ((k + 1) * recordSize r) headerSize ws,
+        ← members-take r n (c - (k + 1)) (drop ((k + 1) * recordSize r) (drop headerSize ws)) (omega arith),
+        ← members-drop r (k + 1) c (drop headerSize ws) (omega arith),
+      )
+      (ids-take n _ ∙ ap (take n) (ids-drop (k + 1) _) ∙ rw (
+        s,
+        next-ups-place (ids (membersIn ws)) (rising-true (ids (membersIn ws)) (f .rises)) n k (omega arith) (omega arith),
+        take-append-le n (drop (suc k) (ids (membersIn ws))) (ids (membersIn ws)) (simp length-drop (omega arith)),
+      ))
 
   pub ahead-starts : at ≤ length ws
   ahead-starts = let b = span (k + 1) (getD ws 1 0) (recordSize (getD ws 0 0)) (omega arith) in omega (arith, f .fits)
@@ -104,7 +113,8 @@ module _ (ws : List ℕ) (k at : ℕ) (h : k < getD ws 1 0) (e : at ≡ headerSi
   wrong-below n = rw (by-words, ne-eqb _ _ n, and-false)
 
   -- its list l as the part of the table
-  pub by-list : (l : List ℕ) (b : Bool) → getD ws (at + 1) 0 ≡ d → l ≡ getD (membersIn ws) k nobody .successors → length l ≡ getD ws 0 0 → b ≡ same l (nextUps (length l) xs (getD xs k 0)) → b ≡ idealMember (getD ws 0 0) xs (getD (membersIn ws) k nobody)
+  pub by-list : (l : List ℕ) (b : Bool) → getD ws (at + 1) 0 ≡ d → l ≡ getD (membersIn ws) k nobody .successors → length l ≡ getD ws 0 0
+      → b ≡ same l (nextUps (length l) xs (getD xs k 0)) → b ≡ idealMember (getD ws 0 0) xs (getD (membersIn ws) k nobody)
   by-list l b p q n t = t ∙ rw (by-words, eq-eqb _ _ p, and-true, n, q)
 
 -- All members, from place k on

@@ -1,3 +1,3 @@
 -- Laws that the proofs of this crate cite.
-pub mod Turns
+pub mod Loops
 pub mod Whole

@@ -44,7 +44,9 @@ module _ (ws : List ℕ) (w : wellFormed ws ≡ true) where
   header-bytes = ap (λ (n : ℕ). headerBytes (getD ws 0 0) n (getD ws 2 0)) (sym counted)
 
   -- `write_image`: the first field, the members' fields and the last one
-  pub image-written : (end : ℕ) (head out o1 o2 o3 : List ℕ) → head ≡ headerField (tableOf ws) → end ≡ firstSize + getD ws 1 0 * fieldSize (getD ws 0 0) → imageSize (getD ws 0 0) (getD ws 1 0) ≤ length out → o1 ≡ placed 0 head out → o2 ≡ placed firstSize (memberFields (membersIn ws)) o1 → o3 ≡ placed end (3 ∷ bytesOf 2 0) o2 → o3 ≡ placed 0 (imageOf (tableOf ws)) out
+  pub image-written : (end : ℕ) (head out o1 o2 o3 : List ℕ) → head ≡ headerField (tableOf ws) → end ≡ firstSize + getD ws 1 0 * fieldSize (getD ws 0 0)
+      → imageSize (getD ws 0 0) (getD ws 1 0) ≤ length out → o1 ≡ placed 0 head out → o2 ≡ placed firstSize (memberFields (membersIn ws)) o1
+      → o3 ≡ placed end (3 ∷ bytesOf 2 0) o2 → o3 ≡ placed 0 (imageOf (tableOf ws)) out
   image-written end head out o1 o2 o3 eh q fits e1 e2 e3 =
       let fields : List ℕ = memberFields (membersIn ws) in
       let l : length head ≡ firstSize = ap length eh in
@@ -67,7 +69,8 @@ module _ (ws bs : List ℕ) where
         let l : length bs < length (imageOf (tableOf ws)) = rw (image-bytes ws w) h in
         (rw (w, lt-ltb (length bs) (length (imageOf (tableOf ws))) l), rw (w, lt-ltb (length bs) (length (imageOf (tableOf ws))) l))
 
-    pub written : (n : ℕ) (last : List ℕ) → n ≡ imageSize (getD ws 0 0) (getD ws 1 0) → n ≤ length bs → last ≡ placed 0 (imageOf (tableOf ws)) bs → (accepted (n ∷ []) ≡ writeAnswer ws bs) × (last ≡ writeBytes ws bs)
+    pub written : (n : ℕ) (last : List ℕ) → n ≡ imageSize (getD ws 0 0) (getD ws 1 0) → n ≤ length bs → last ≡ placed 0 (imageOf (tableOf ws)) bs
+        → (accepted (n ∷ []) ≡ writeAnswer ws bs) × (last ≡ writeBytes ws bs)
     unfolding writeAnswer writeBytes writeRefusal
     written n last e h p =
         let q : n ≡ length (imageOf (tableOf ws)) = e ∙ sym (image-bytes ws w) in
@@ -81,10 +84,12 @@ pub header-read : (bs : List ℕ) (r n s : ℕ) → r ≡ imageR bs → n ≡ im
 header-read bs r n s er en es = rw (er, en, es, in-length (imageR bs) (imageCount bs) (drop firstSize bs))
 
 -- `read_image`: the header and the records
-pub table-read : (bs t last header : List ℕ) → header ≡ headerOf (tableIn bs) → headerSize ≤ length t → last ≡ placed headerSize (recordsOf (tableIn bs .members)) (sets t 0 header) → last ≡ placed 0 (wordsOf (tableIn bs)) t
+pub table-read : (bs t last header : List ℕ) → header ≡ headerOf (tableIn bs) → headerSize ≤ length t
+    → last ≡ placed headerSize (recordsOf (tableIn bs .members)) (sets t 0 header) → last ≡ placed 0 (wordsOf (tableIn bs)) t
 table-read bs t last header q h e =
     let l : length header ≡ headerSize = ap length q in
-    placed-then 0 headerSize header (recordsOf (tableIn bs .members)) t (sets t 0 header) last (omega arith) l (sets-eq header t 0 (omega arith)) e ∙ ap (λ (v : List ℕ). placed 0 (v ++ recordsOf (tableIn bs .members)) t) q
+    placed-then 0 headerSize header (recordsOf (tableIn bs .members)) t (sets t 0 header) last (omega arith) l (sets-eq header t 0 (omega arith)) e
+    ∙ ap (λ (v : List ℕ). placed 0 (v ++ recordsOf (tableIn bs .members)) t) q
 
 -- the sizes of an image
 pub record Sizes (bs : List ℕ) : Type 0 where
@@ -120,8 +125,11 @@ module _ (ws bs : List ℕ) where
         let l : length ws < size (tableIn bs) = rw counts h in
         (rw (i, lt-ltb (length ws) (size (tableIn bs)) l), rw (i, lt-ltb (length ws) (size (tableIn bs)) l))
 
-    pub read : (n : ℕ) (last : List ℕ) → n ≡ imageCount bs → headerSize + imageCount bs * recordSize (imageR bs) ≤ length ws → last ≡ placed 0 (wordsOf (tableIn bs)) ws → (accepted (n ∷ []) ≡ readAnswer ws bs) × (last ≡ readWords ws bs)
+    pub read : (n : ℕ) (last : List ℕ) → n ≡ imageCount bs → headerSize + imageCount bs * recordSize (imageR bs) ≤ length ws
+        → last ≡ placed 0 (wordsOf (tableIn bs)) ws → (accepted (n ∷ []) ≡ readAnswer ws bs) × (last ≡ readWords ws bs)
     unfolding readAnswer readWords readRefusal
     read n last e h p =
-        let l : size (tableIn bs) ≤ length ws = rw counts h in
-        (rw (i, le-ltb (length ws) (size (tableIn bs)) l, e, in-length (imageR bs) (imageCount bs) (drop firstSize bs)), rw (i, le-ltb (length ws) (size (tableIn bs)) l) (p ∙ front (wordsOf (tableIn bs)) ws))
+        let l : size (tableIn bs) ≤ length ws = rw counts h in (
+          rw (i, le-ltb (length ws) (size (tableIn bs)) l, e, in-length (imageR bs) (imageCount bs) (drop firstSize bs)),
+          rw (i, le-ltb (length ws) (size (tableIn bs)) l) (p ∙ front (wordsOf (tableIn bs)) ws),
+        )

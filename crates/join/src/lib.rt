@@ -8,16 +8,16 @@ ghost use Rattle.model.specs.Steps.{joiner as joinerOf, joined};
 ghost use Rattle.model.specs.Refusals.{full};
 ghost use Rattle.model.specs.Calls.{written, joinAnswer, joinWords};
 ghost use Rattle.member.specs.View.{view};
-ghost use Rattle.table.specs.Formed.{Formed};
-ghost use Rattle.table.specs.Search.{Stands};
-ghost use Rattle.count.specs.Answers.{answerOf};
-ghost use Rattle.join.specs.Entry.{entryOf, Admits};
-use count::Count;
+ghost use Rattle.table.specs.FormedWords.{FormedWords};
+ghost use Rattle.table.specs.Located.{Stands};
+ghost use Rattle.answers.specs.MemberCount.{answerOf};
+ghost use Rattle.join.specs.Admission.{admissionOf, Admits};
+use answers::member_count::MemberCount;
 use member::Member;
-use table::Search;
+use table::Located;
 
 // Whether a shelf may join.
-enum Entry {
+enum Admission {
     // the place where it is missing, and the place of the member that it joins by
     May(usize, usize),
     // the number that declines it
@@ -26,47 +26,47 @@ enum Entry {
 
 // Is there no room for one more record?
 fn is_full(t: &[u32]) -> bool
-    requires { ⌜ Formed (now t) ⌝ }
+    requires { ⌜ FormedWords (now t) ⌝ }
     ensures { λ b. ⌜ b ≡ full (now (t .entry)) ⌝ }
 {
-    let r = t[0] as usize;
-    let n = t[1] as usize;
+    let r = t[words::R] as usize;
+    let n = t[words::COUNT] as usize;
     if 256 <= n {
         return true;
     }
-    t.len() - words::offset(r, n) < words::width(r)
+    t.len() - words::offset(r, n) < words::record_size(r)
 }
 
 // May j join by p?
-fn judged(t: &[u32], j: u32, p: u32) -> Entry
-    ensures { λ a. ⌜ a ≡ entryOf (now (t .entry)) j p ⌝ }
+fn judged(t: &[u32], j: u32, p: u32) -> Admission
+    ensures { λ a. ⌜ a ≡ admissionOf (now (t .entry)) j p ⌝ }
 {
     if table::well_formed(t) {
-        let Search::Missing(at) = table::find(t, j) else {
-            return Entry::Declined(2);
+        let Located::Missing(at) = table::locate(t, j) else {
+            return Admission::Declined(2);
         };
-        let Search::Here(k) = table::find(t, p) else {
-            return Entry::Declined(3);
+        let Located::Here(k) = table::locate(t, p) else {
+            return Admission::Declined(3);
         };
         let m = table::member_at(t, k);
         let h = m.successors[0];
         if ident::between(p, j, h) {
-            let Search::Here(_) = table::find(t, h) else {
-                return Entry::Declined(13);
+            let Located::Here(_) = table::locate(t, h) else {
+                return Admission::Declined(13);
             };
             if is_full(t) {
-                return Entry::Declined(5);
+                return Admission::Declined(5);
             }
-            return Entry::May(at, k);
+            return Admission::May(at, k);
         }
-        return Entry::Declined(4);
+        return Admission::Declined(4);
     }
-    Entry::Declined(1)
+    Admission::Declined(1)
 }
 
 // The new member j, with the list of p, which stands at place k.
 fn joiner(t: &[u32], k: usize, j: u32, p: u32) -> Member
-    requires { ⌜ Formed (now t) ⌝ }
+    requires { ⌜ FormedWords (now t) ⌝ }
     requires { ⌜ Stands (now t) k p ⌝ }
     ensures { λ m. ⌜ view (getD (now (t .entry)) 0 0) m ≡ joinerOf (membersIn (now (t .entry))) j p ⌝ }
 {
@@ -82,22 +82,22 @@ fn joiner(t: &[u32], k: usize, j: u32, p: u32) -> Member
 }
 
 // j, which may join by p, is put in at its place: the member count afterwards.
-fn admitted(t: &mut [u32], at: usize, k: usize, j: u32, p: u32) -> Count
+fn admitted(t: &mut [u32], at: usize, k: usize, j: u32, p: u32) -> MemberCount
     requires { ⌜ Admits (now t) at k j p ⌝ }
     ensures { λ a. ⌜ (answerOf a ≡ accepted (length (joined j p (tableOf (now (t .entry))) .members) ∷ [])) × (now (t .exit) ≡ written (joined j p (tableOf (now (t .entry)))) (now (t .entry))) ⌝ }
 {
     let m = joiner(t, k, j, p);
     records::insert_at(t, at, m);
-    let n = t[1];
-    Count::Members(n)
+    let n = t[words::COUNT];
+    MemberCount::Members(n)
 }
 
 // j joins by p: the member count afterwards, or 1, 2, 3, 4, 13 or 5 with the table unchanged.
-pub fn join(t: &mut [u32], j: u32, p: u32) -> Count
+pub fn join(t: &mut [u32], j: u32, p: u32) -> MemberCount
     ensures { λ a. ⌜ (answerOf a ≡ joinAnswer (now (t .entry)) j p) × (now (t .exit) ≡ joinWords (now (t .entry)) j p) ⌝ }
 {
     match judged(t, j, p) {
-        Entry::May(at, k) => admitted(t, at, k, j, p),
-        Entry::Declined(c) => Count::Declined(c),
+        Admission::May(at, k) => admitted(t, at, k, j, p),
+        Admission::Declined(c) => MemberCount::Declined(c),
     }
 }

@@ -74,9 +74,9 @@ number-part at k n bs h = ap (numberFrom 0) (part-of-part at k n bs h)
 
 -- Numbers of four bytes each
 
-pub words-length : (l : List ℕ) → length (words4 l) ≡ 4 * length l
-words-length [] = omega arith
-words-length (x ∷ l) = omega (arith, words-length l)
+pub words4-length : (l : List ℕ) → length (words4 l) ≡ 4 * length l
+words4-length [] = omega arith
+words4-length (x ∷ l) = omega (arith, words4-length l)
 
 pub numbers-length : (n : ℕ) (bs : List ℕ) → length (numbersAt n bs) ≡ n
 numbers-length zero bs = refl
@@ -103,7 +103,7 @@ abbrev pub fieldSize : ℕ → ℕ
 fieldSize r = fieldHead + memberLength r
 
 pub contents-length : (r : ℕ) (m : Member) → length (m .successors) ≡ r → length (memberContents m) ≡ memberLength r
-contents-length r m e = omega (arith, words-length (m .successors))
+contents-length r m e = omega (arith, words4-length (m .successors))
 
 pub field-length : (r : ℕ) (m : Member) → length (m .successors) ≡ r → length (memberField m) ≡ fieldSize r
 field-length r m e = omega (arith, contents-length r m e)
@@ -175,12 +175,14 @@ fields-read w r (m ∷ ms) rest k h =
     let later = memberFields ms ++ rest in
     let apart : (memberField m ++ memberFields ms) ++ rest ≡ memberField m ++ later = append-assoc (memberField m) (memberFields ms) rest in
     let others : drop (fieldSize r) (memberField m ++ later) ≡ later = drop-at (memberField m) later (fieldSize r) (field-length r m (f .list-length)) in
-    ap (fieldMembers r (suc (length ms))) apart ∙ ap₂ (λ (a : Member) (k : List Member). a ∷ k) (contents-read w r m later k f) (ap (fieldMembers r (length ms)) others ∙ fields-read w r ms rest k (λ m i. h m (there i)))
+    ap (fieldMembers r (suc (length ms))) apart ∙ ap₂ (λ (a : Member) (k : List Member). a ∷ k) (contents-read w r m later k f)
+    (ap (fieldMembers r (length ms)) others ∙ fields-read w r ms rest k (λ m i. h m (there i)))
 
 -- A table and its image
 
 -- the bytes of the first field say its contents
-pub header-said : (bs : List ℕ) → Bytes bs → fieldHead + headerLength ≤ length bs → headerContents (tableIn bs .r) (length (tableIn bs .members)) (tableIn bs .steps) ≡ take headerLength (drop fieldHead bs)
+pub header-said : (bs : List ℕ) → Bytes bs → fieldHead + headerLength ≤ length bs
+    → headerContents (tableIn bs .r) (length (tableIn bs .members)) (tableIn bs .steps) ≡ take headerLength (drop fieldHead bs)
 header-said bs h l =
     ap (λ (n : ℕ). headerContents (imageR bs) n (tableIn bs .steps)) (in-length (imageR bs) (imageCount bs) (drop (fieldHead + headerLength) bs))
     ∙ cut 3 1 6 bs _ _ (said-at 1 3 bs h (omega arith)) (cut 4 2 4 bs _ _ (said-at 2 4 bs h (omega arith)) (said-at 4 6 bs h (omega arith)))
@@ -198,4 +200,5 @@ image-read T f = λ i. record { r = sameR i; steps = bytes-say 4 (T .steps) (f .
     sameCount = bytes-say 2 (length (T .members)) (omega (arith, f .count-high))
 
     sameMembers : tableIn (imageOf T) .members ≡ T .members
-    sameMembers = ap₂ (λ (r n : ℕ). fieldMembers r n (memberFields (T .members) ++ field 3 [])) sameR sameCount ∙ fields-read (spaceOf T) (T .r) (T .members) (field 3 []) (identifiers-fit T f) (f .each)
+    sameMembers = ap₂ (λ (r n : ℕ). fieldMembers r n (memberFields (T .members) ++ field 3 [])) sameR sameCount
+        ∙ fields-read (spaceOf T) (T .r) (T .members) (field 3 []) (identifiers-fit T f) (f .each)

@@ -131,13 +131,13 @@ pub record Less (x : ℕ) (l : List ℕ) : Type 0 where
   pub shorter : length l ≡ suc (length left)
   pub others : (y : ℕ) → In y l → (y ≡ x → ⊥) → In y left
 
-pub without : {x : ℕ} {l : List ℕ} → In x l → Less x l
-without {x} (here {y} {l} e) = record { left = l; shorter = refl; others = λ z m n. go (in-cons m) n }
+pub one-less : {x : ℕ} {l : List ℕ} → In x l → Less x l
+one-less {x} (here {y} {l} e) = record { left = l; shorter = refl; others = λ z m n. go (in-cons m) n }
   where
     go : {z : ℕ} → (z ≡ y) ⊎ In z l → (z ≡ x → ⊥) → In z l
     go (inl p) n = absurd (n (p ∙ sym e))
     go (inr m) n = m
-without {x} (there {y} {l} m) = go (without m)
+one-less {x} (there {y} {l} m) = go (one-less m)
   where
     go : Less x l → Less x (y ∷ l)
     go w = record { left = y ∷ w .left; shorter = ap suc (w .shorter); others = λ z i n. sub (in-cons i) n }
@@ -149,7 +149,7 @@ without {x} (there {y} {l} m) = go (without m)
 pub pigeonhole : (p l : List ℕ) → NoDup p → ((x : ℕ) → In x p → In x l) → length p ≤ length l
 pigeonhole [] l nd sub = omega arith
 pigeonhole (x ∷ p) l nd sub =
-    let w = without (sub x (here refl)) in
+    let w = one-less (sub x (here refl)) in
     let h = pigeonhole p (w .left) (nd .1) (λ y m. w .others y (sub y (there m)) (λ e. nd .0 (rw e at m))) in
     omega arith
 
@@ -348,7 +348,8 @@ pub found : {x : ℕ} (ms : List Member) → In x (ids ms) → In (named ms x) m
 found [] i = absurd (in-nil i)
 found {x} (m ∷ ms) i = go (found ms) (eqb (m .id) x) refl (in-cons i)
   where
-    go : (In x (ids ms) → In (named ms x) ms × (named ms x .id ≡ x)) → (b : Bool) → eqb (m .id) x ≡ b → (x ≡ m .id) ⊎ In x (ids ms) → In (if b then m else named ms x) (m ∷ ms) × ((if b then m else named ms x) .id ≡ x)
+    go : (In x (ids ms) → In (named ms x) ms × (named ms x .id ≡ x)) → (b : Bool) → eqb (m .id) x ≡ b → (x ≡ m .id) ⊎ In x (ids ms)
+        → In (if b then m else named ms x) (m ∷ ms) × ((if b then m else named ms x) .id ≡ x)
     go ih true e k = (here refl, eqb-true (m .id) x e)
     go ih false e (inl q) = absurd (eqb-false (m .id) x e (sym q))
     go ih false e (inr k) = let w = ih k in (there (w .0), w .1)

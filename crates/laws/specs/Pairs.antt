@@ -23,7 +23,13 @@ list-pairs a (b ∷ l) = rw (list-pairs b l)
 pub table-pairs : (r : ℕ) (ms : List Member) → Lengths r ms → length (pairs ms) ≡ length ms * r
 table-pairs r [] h = omega arith
 table-pairs r (m ∷ ms) h =
-    rw (length-append (neighbours (m .id) (m .successors)) (pairs ms), list-pairs (m .id) (m .successors), h m (here refl), table-pairs r ms (λ k i. h k (there i)), suc-mul (length ms) r) (omega arith)
+    rw (
+      length-append (neighbours (m .id) (m .successors)) (pairs ms),
+      list-pairs (m .id) (m .successors),
+      h m (here refl),
+      table-pairs r ms (λ k i. h k (there i)),
+      suc-mul (length ms) r,
+    ) (omega arith)
 
 -- What they skip
 

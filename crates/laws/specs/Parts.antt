@@ -59,4 +59,13 @@ abbrev pub eight : List ℕ → List ℕ
 eight ys = getD ys 0 0 ∷ getD ys 1 0 ∷ getD ys 2 0 ∷ getD ys 3 0 ∷ getD ys 4 0 ∷ getD ys 5 0 ∷ getD ys 6 0 ∷ getD ys 7 0 ∷ []
 
 pub take-eight : (ys : List ℕ) → 8 ≤ length ys → take 8 ys ≡ eight ys
-take-eight ys h = rw (take-suc ys 7 0 (omega arith), take-suc ys 6 0 (omega arith), take-suc ys 5 0 (omega arith), take-suc ys 4 0 (omega arith), take-suc ys 3 0 (omega arith), take-suc ys 2 0 (omega arith), take-suc ys 1 0 (omega arith), take-suc ys 0 0 (omega arith))
+take-eight ys h = rw (
+  take-suc ys 7 0 (omega arith),
+  take-suc ys 6 0 (omega arith),
+  take-suc ys 5 0 (omega arith),
+  take-suc ys 4 0 (omega arith),
+  take-suc ys 3 0 (omega arith),
+  take-suc ys 2 0 (omega arith),
+  take-suc ys 1 0 (omega arith),
+  take-suc ys 0 0 (omega arith),
+)

@@ -99,7 +99,8 @@ module _ (xs : List ℕ) (a : Rising xs) where
       round : suc k ≡ length xs → take (suc n) (drop (suc k) xs ++ xs) ≡ getD xs 0 0 ∷ take n (drop 1 xs ++ xs)
       round e = rw (drop-of-length-le xs {i = suc k} (omega arith)) (taken xs n le)
 
-      go : (suc k < length xs) ⊎ (length xs ≤ suc k) → ((j : ℕ) → j < length xs → nextUps n xs (getD xs j 0) ≡ take n (drop (suc j) xs ++ xs)) → nextUps (suc n) xs (getD xs k 0) ≡ take (suc n) (drop (suc k) xs ++ xs)
+      go : (suc k < length xs) ⊎ (length xs ≤ suc k) → ((j : ℕ) → j < length xs → nextUps n xs (getD xs j 0) ≡ take n (drop (suc j) xs ++ xs))
+          → nextUps (suc n) xs (getD xs k 0) ≡ take (suc n) (drop (suc k) xs ++ xs)
       go (inl l) ih = rw (next-up-place k l, ahead l, ih (suc k) l)
       go (inr l) ih = rw (next-up-end k (omega arith), round (omega arith), ih 0 (omega arith))
 

@@ -88,7 +88,8 @@ pub without-length : (n : ℕ) (ms : List Member) → Rising (ids ms) → In n (
 without-length n [] a i = absurd (in-nil i)
 without-length n (m ∷ ms) a i = go (eqb (m .id) n) refl (in-cons i) (without-length n ms (above-rising (m .id) (ids ms) a))
   where
-    go : (b : Bool) → eqb (m .id) n ≡ b → (n ≡ m .id) ⊎ In n (ids ms) → (In n (ids ms) → suc (length (staying (isNamed n) ms)) ≡ length ms) → suc (length (if not b then m ∷ staying (isNamed n) ms else staying (isNamed n) ms)) ≡ suc (length ms)
+    go : (b : Bool) → eqb (m .id) n ≡ b → (n ≡ m .id) ⊎ In n (ids ms) → (In n (ids ms) → suc (length (staying (isNamed n) ms)) ≡ length ms)
+        → suc (length (if not b then m ∷ staying (isNamed n) ms else staying (isNamed n) ms)) ≡ suc (length ms)
     go true e k ih = ap (λ (l : List Member). suc (length l)) (without-none n ms (λ j. omega (arith, eqb-true (m .id) n e, above-in (ids ms) a j)))
     go false e (inl q) ih = absurd (eqb-false (m .id) n e (sym q))
     go false e (inr k) ih = ap suc (ih k)

@@ -55,40 +55,44 @@ module _ (ms : List Member) (v : Member) where
     unfolding stabilize
     step-dead p l = rw (p, l)
 
--- The five ways of a stabilize step of v, each with what it replies and the record that it leaves
-pub data Way (w : ℕ) (ms : List Member) (v : Member) : List ℕ → Member → Type 0 where
-  takes : isPending v ≡ true → live ms (v .candidate) ≡ true → Way w ms v (2 ∷ v .candidate ∷ []) (clearPending (adopt (v .candidate) (named ms (v .candidate) .successors) v))
-  clears : isPending v ≡ true → live ms (v .candidate) ≡ false → Way w ms v (2 ∷ successor v ∷ []) (clearPending v)
-  drops : isPending v ≡ false → live ms (successor v) ≡ false → Way w ms v (0 ∷ []) (dropHead w v)
-  looks : isPending v ≡ false → live ms (successor v) ≡ true → isBetter ms v ≡ true → Way w ms v (1 ∷ offered ms v ∷ []) (awaitCandidate (offered ms v) (adopt (successor v) (named ms (successor v) .successors) v))
-  settles : isPending v ≡ false → live ms (successor v) ≡ true → isBetter ms v ≡ false → Way w ms v (2 ∷ successor v ∷ []) (adopt (successor v) (named ms (successor v) .successors) v)
+-- The five cases of a stabilize step of v, each with what it replies and the record that it leaves
+pub data StepCase (w : ℕ) (ms : List Member) (v : Member) : List ℕ → Member → Type 0 where
+  takes : isPending v ≡ true → live ms (v .candidate) ≡ true → StepCase w ms v (2 ∷ v .candidate ∷ []) (clearPending (adopt (v .candidate) (named ms (v .candidate) .successors) v))
+  clears : isPending v ≡ true → live ms (v .candidate) ≡ false → StepCase w ms v (2 ∷ successor v ∷ []) (clearPending v)
+  drops : isPending v ≡ false → live ms (successor v) ≡ false → StepCase w ms v (0 ∷ []) (dropHead w v)
+  looks : isPending v ≡ false → live ms (successor v) ≡ true → isBetter ms v ≡ true
+      → StepCase w ms v (1 ∷ offered ms v ∷ []) (awaitCandidate (offered ms v) (adopt (successor v) (named ms (successor v) .successors) v))
+  settles : isPending v ≡ false → live ms (successor v) ≡ true → isBetter ms v ≡ false → StepCase w ms v (2 ∷ successor v ∷ []) (adopt (successor v) (named ms (successor v) .successors) v)
 
 module _ (w : ℕ) (ms : List Member) (v : Member) where
-  -- a step goes one of them
-  pub way-of : Way w ms v (stabilizeReply ms v) (stabilize w ms v)
+  -- a step is one of them
+  pub step-case : StepCase w ms v (stabilizeReply ms v) (stabilize w ms v)
   unfolding stabilize stabilizeFromSuccessor stabilizeFromPredecessor stabilizeReply
-  way-of = go (isPending v) refl (live ms (v .candidate)) refl (live ms (successor v)) refl (isBetter ms v) refl
+  step-case = go (isPending v) refl (live ms (v .candidate)) refl (live ms (successor v)) refl (isBetter ms v) refl
     where
       go : (a : Bool) → isPending v ≡ a → (b : Bool) → live ms (v .candidate) ≡ b → (c : Bool) → live ms (successor v) ≡ c → (d : Bool) → isBetter ms v ≡ d →
-          Way w ms v
-          (if a then 2 ∷ successor (clearPending (if b then adopt (v .candidate) (named ms (v .candidate) .successors) v else v)) ∷ [] else if not c then 0 ∷ [] else if d then 1 ∷ offered ms v ∷ [] else 2 ∷ successor v ∷ [])
-          (if a then clearPending (if b then adopt (v .candidate) (named ms (v .candidate) .successors) v else v) else if c then (if d then awaitCandidate (offered ms v) (adopt (successor v) (named ms (successor v) .successors) v) else adopt (successor v) (named ms (successor v) .successors) v) else dropHead w v)
+          StepCase w ms v
+          (if a then 2 ∷ successor (clearPending (if b then adopt (v .candidate) (named ms (v .candidate) .successors) v else v)) ∷ []
+          else if not c then 0 ∷ [] else if d then 1 ∷ offered ms v ∷ [] else 2 ∷ successor v ∷ [])
+          (if a then clearPending (if b then adopt (v .candidate) (named ms (v .candidate) .successors) v else v)
+          else if c then (if d then awaitCandidate (offered ms v) (adopt (successor v) (named ms (successor v) .successors) v)
+          else adopt (successor v) (named ms (successor v) .successors) v) else dropHead w v)
       go true p true l c ec d ed = takes p l
       go true p false l c ec d ed = clears p l
       go false p b eb true l true e = looks p l e
       go false p b eb true l false e = settles p l e
       go false p b eb false l d ed = drops p l
 
--- whichever way: a step changes neither identifier nor predecessor
-way-id : {w : ℕ} {ms : List Member} {v : Member} {l : List ℕ} {u : Member} → Way w ms v l u → (u .id ≡ v .id) × (u .predecessor ≡ v .predecessor)
-way-id (takes p l) = (refl, refl)
-way-id (clears p l) = (refl, refl)
-way-id (drops p l) = (refl, refl)
-way-id (looks p l e) = (refl, refl)
-way-id (settles p l e) = (refl, refl)
+-- whichever case: a step changes neither identifier nor predecessor
+case-id : {w : ℕ} {ms : List Member} {v : Member} {l : List ℕ} {u : Member} → StepCase w ms v l u → (u .id ≡ v .id) × (u .predecessor ≡ v .predecessor)
+case-id (takes p l) = (refl, refl)
+case-id (clears p l) = (refl, refl)
+case-id (drops p l) = (refl, refl)
+case-id (looks p l e) = (refl, refl)
+case-id (settles p l e) = (refl, refl)
 
 pub same-id : (ms : List Member) (v : Member) (w : ℕ) → stabilize w ms v .id ≡ v .id
-same-id ms v w = way-id (way-of w ms v) .0
+same-id ms v w = case-id (step-case w ms v) .0
 
 pub same-predecessor : (ms : List Member) (v : Member) (w : ℕ) → stabilize w ms v .predecessor ≡ v .predecessor
-same-predecessor ms v w = way-id (way-of w ms v) .1
+same-predecessor ms v w = case-id (step-case w ms v) .1

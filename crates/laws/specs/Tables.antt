@@ -28,17 +28,49 @@ pub record FormedMember (w r : ℕ) (m : Member) : Type 0 where
 
 -- with nothing pending; and with another list, another candidate, another predecessor
 pub idle-formed : (w r x p : ℕ) (l : List ℕ) → x < w → p < w → length l ≡ r → ((e : ℕ) → In e l → e < w) → FormedMember w r (idle x p l)
-idle-formed w r x p l hx hp n h = record { pending-bit = omega arith; no-candidate = λ q. refl; list-length = n; id-small = hx; predecessor-small = hp; candidate-small = omega arith; entries-small = h }
+idle-formed w r x p l hx hp n h = record {
+  pending-bit = omega arith;
+  no-candidate = λ q. refl;
+  list-length = n;
+  id-small = hx;
+  predecessor-small = hp;
+  candidate-small = omega arith;
+  entries-small = h;
+}
 
 module _ {w r : ℕ} {m : Member} (f : FormedMember w r m) where
   pub list-formed : (l : List ℕ) → length l ≡ r → ((e : ℕ) → In e l → e < w) → FormedMember w r (withSuccessors l m)
-  list-formed l n h = record { pending-bit = f .pending-bit; no-candidate = f .no-candidate; list-length = n; id-small = f .id-small; predecessor-small = f .predecessor-small; candidate-small = f .candidate-small; entries-small = h }
+  list-formed l n h = record {
+    pending-bit = f .pending-bit;
+    no-candidate = f .no-candidate;
+    list-length = n;
+    id-small = f .id-small;
+    predecessor-small = f .predecessor-small;
+    candidate-small = f .candidate-small;
+    entries-small = h;
+  }
 
   pub pending-formed : (b c : ℕ) → b ≤ 1 → (b ≡ 0 → c ≡ 0) → c < w → FormedMember w r (withPending b c m)
-  pending-formed b c hb hc h = record { pending-bit = hb; no-candidate = hc; list-length = f .list-length; id-small = f .id-small; predecessor-small = f .predecessor-small; candidate-small = h; entries-small = f .entries-small }
+  pending-formed b c hb hc h = record {
+    pending-bit = hb;
+    no-candidate = hc;
+    list-length = f .list-length;
+    id-small = f .id-small;
+    predecessor-small = f .predecessor-small;
+    candidate-small = h;
+    entries-small = f .entries-small;
+  }
 
   pub predecessor-formed : (p : ℕ) → p < w → FormedMember w r (withPredecessor p m)
-  predecessor-formed p h = record { pending-bit = f .pending-bit; no-candidate = f .no-candidate; list-length = f .list-length; id-small = f .id-small; predecessor-small = h; candidate-small = f .candidate-small; entries-small = f .entries-small }
+  predecessor-formed p h = record {
+    pending-bit = f .pending-bit;
+    no-candidate = f .no-candidate;
+    list-length = f .list-length;
+    id-small = f .id-small;
+    predecessor-small = h;
+    candidate-small = f .candidate-small;
+    entries-small = f .entries-small;
+  }
 
 -- a table is well-formed
 pub record Formed (T : Table) : Type 0 where
@@ -119,7 +151,8 @@ pub member-formed : (w r : ℕ) (m : Member) → FormedMember w r m → formedMe
 unfolding formedMember
 member-formed w r m f =
     true-and (true-and (true-and (le-leb _ _ (f .pending-bit)) (of-no-candidate (m .pending) (m .candidate) (f .pending-bit) (f .no-candidate))) (eq-eqb _ _ (f .list-length)))
-    (true-and (lt-ltb _ _ (f .id-small)) (true-and (lt-ltb _ _ (f .predecessor-small)) (true-and (lt-ltb _ _ (f .candidate-small)) (in-every (λ x. ltb x w) (m .successors) (λ e i. lt-ltb e w (f .entries-small e i))))))
+    (true-and (lt-ltb _ _ (f .id-small)) (true-and (lt-ltb _ _ (f .predecessor-small))
+    (true-and (lt-ltb _ _ (f .candidate-small)) (in-every (λ x. ltb x w) (m .successors) (λ e i. lt-ltb e w (f .entries-small e i))))))
 
 pub formed-facts : (T : Table) → formed T ≡ true → Formed T
 unfolding formed
@@ -141,7 +174,8 @@ formed-facts T h =
 pub facts-formed : (T : Table) → Formed T → formed T ≡ true
 unfolding formed
 facts-formed T f =
-    true-and (true-and (true-and (true-and (true-and (le-leb _ _ (f .r-low)) (le-leb _ _ (f .r-high))) (le-leb _ _ (f .count-high))) (lt-ltb _ _ (f .steps-small))) (true-rising (ids (T .members)) (f .ids-rising)))
+    true-and (true-and (true-and (true-and (true-and (le-leb _ _ (f .r-low)) (le-leb _ _ (f .r-high))) (le-leb _ _ (f .count-high)))
+    (lt-ltb _ _ (f .steps-small))) (true-rising (ids (T .members)) (f .ids-rising)))
     (in-every (formedMember (spaceOf T) (T .r)) (T .members) (λ m i. member-formed (spaceOf T) (T .r) m (f .each m i)))
 
 pub wellFormed-facts : (ws : List ℕ) → wellFormed ws ≡ true → WellFormed ws

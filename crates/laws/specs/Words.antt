@@ -39,7 +39,9 @@ records-read r (m ∷ ms) rest h =
     let apart : (recordOf m ++ recordsOf ms) ++ rest ≡ recordOf m ++ (recordsOf ms ++ rest) = append-assoc (recordOf m) (recordsOf ms) rest in
     let later : drop (recordSize r) (recordOf m ++ (recordsOf ms ++ rest)) ≡ recordsOf ms ++ rest = drop-at (recordOf m) (recordsOf ms ++ rest) (recordSize r) (record-length r m first) in
     let one : memberOf r ((recordOf m ++ recordsOf ms) ++ rest) ≡ m = ap (memberOf r) apart ∙ record-read r m (recordsOf ms ++ rest) first in
-    let others : membersOf r (length ms) (drop (recordSize r) ((recordOf m ++ recordsOf ms) ++ rest)) ≡ ms = ap (λ (k : List ℕ). membersOf r (length ms) (drop (recordSize r) k)) apart ∙ ap (membersOf r (length ms)) later ∙ records-read r ms rest (λ k i. h k (there i)) in
+    let others : membersOf r (length ms) (drop (recordSize r) ((recordOf m ++ recordsOf ms) ++ rest)) ≡ ms =
+    ap (λ (k : List ℕ). membersOf r (length ms) (drop (recordSize r) k)) apart ∙ ap (membersOf r (length ms)) later
+    ∙ records-read r ms rest (λ k i. h k (there i)) in
     ap₂ (λ (a : Member) (k : List Member). a ∷ k) one others
 
 pub words-read : (T : Table) (rest : List ℕ) → Lengths (T .r) (T .members) → tableOf (wordsOf T ++ rest) ≡ T
@@ -102,7 +104,8 @@ pub records-written : (r n : ℕ) (ws : List ℕ) → n * recordSize r ≤ lengt
 records-written r zero ws h = let q : 0 * recordSize r ≡ 0 = omega arith in rw q
 records-written r (suc n) ws h =
     let q : suc n * recordSize r ≡ recordSize r + n * recordSize r = omega arith in
-    ap₂ (λ (a b : List ℕ). a ++ b) (record-written r ws (omega arith)) (records-written r n (drop (recordSize r) ws) (rw length-drop (omega arith))) ∙ rw q (sym (take-add (recordSize r) (n * recordSize r) ws))
+    ap₂ (λ (a b : List ℕ). a ++ b) (record-written r ws (omega arith)) (records-written r n (drop (recordSize r) ws) (rw length-drop (omega arith)))
+    ∙ rw q (sym (take-add (recordSize r) (n * recordSize r) ws))
 
 -- the header of a slice is its first words
 pub header-written : (ws : List ℕ) → headerSize ≤ length ws → headerOf (tableOf ws) ≡ take headerSize ws

@@ -16,14 +16,14 @@ use Rattle.laws.specs.Parts.{part-from}
 use Rattle.script.specs.Lines.{Unreadable, Asks as AsksOf, onFirst, parts, value, isNumber, numbersOf, takes, wordOf, asks, meaning}
 use Rattle.script.specs.declared.Word.{Word}
 use Rattle.script.specs.declared.Word.the-variants.{New, Join, Stab, Rect, Out, Drop, Find, Audit}
-use Rattle.part.specs.declared.Found.{Found}
-use Rattle.part.specs.declared.Found.the-variants.{Is}
+use Rattle.part.specs.declared.MaybeWord.{MaybeWord}
+use Rattle.part.specs.declared.MaybeWord.the-variants.{Is}
 use Rattle.part.specs.declared.Number.the-variants.{Value, NoNumber}
 use Rattle.line.specs.declared.Numbers.{Numbers}
 use Rattle.line.specs.declared.Numbers.the-variants.{Kept, Wrong}
 use Rattle.line.specs.declared.Line.{Line}
 use Rattle.line.specs.declared.Line.the-variants.{Asks, Bad}
-use Rattle.part.specs.Part.{reach, foundOf, numberOf}
+use Rattle.part.specs.Part.{reach, maybeWord, numberOf}
 use Rattle.line.specs.Reading.{following, firsts, someFirsts, given, Within, askedOf, viewed, InLine, cut}
 
 -- the first part, and those after it
@@ -31,7 +31,9 @@ pub first-part : (l : List ℕ) → parts l ≡ take (reach 32 l) l ∷ followin
 first-part [] = refl
 first-part (b ∷ l) = go (eqb b 32) (first-part l)
   where
-    go : (t : Bool) → parts l ≡ take (reach 32 l) l ∷ following (drop (reach 32 l) l) → (if t then [] ∷ parts l else onFirst b (parts l)) ≡ take (if t then 0 else suc (reach 32 l)) (b ∷ l) ∷ following (drop (if t then 0 else suc (reach 32 l)) (b ∷ l))
+    go : (t : Bool) → parts l ≡ take (reach 32 l) l ∷ following (drop (reach 32 l) l)
+        → (if t then [] ∷ parts l else onFirst b (parts l))
+        ≡ take (if t then 0 else suc (reach 32 l)) (b ∷ l) ∷ following (drop (if t then 0 else suc (reach 32 l)) (b ∷ l))
     go true e = refl
     go false e = ap (onFirst b) e
 
@@ -85,7 +87,7 @@ not-one : (ys q : List ℕ) (qs : List (List ℕ)) → NoNumber ≡ numberOf q �
 unfolding numbersOf
 not-one ys q qs e = rw (none-of q e)
 
--- what a turn of the loop over the parts does: its slices are parts of p
+-- what an iteration of the loop over the parts does: its slices are parts of p
 abbrev from : ℕ → List ℕ → List ℕ
 from a l = take (length l - a) (drop a l)
 
@@ -95,7 +97,8 @@ module _ (p : List ℕ) (k : ℕ) (ys : List ℕ) (left : 0 < length p) (end : k
       let e : k ≡ reach 32 (drop 1 p) = rw part-from at end in
       rw (part-from 1 p, part-from k (drop 1 p)) (next-part p left ∙ rw e)
 
-  pub go-on : (v : ℕ) (zs : List ℕ) → zs ≡ firsts (ys ++ (v ∷ [])) → Value v ≡ numberOf (take k (from 1 p)) → someFirsts (behind zs (numbersOf (following (from k (from 1 p))))) ≡ someFirsts (behind ys (numbersOf (following p)))
+  pub go-on : (v : ℕ) (zs : List ℕ) → zs ≡ firsts (ys ++ (v ∷ [])) → Value v ≡ numberOf (take k (from 1 p))
+      → someFirsts (behind zs (numbersOf (following (from k (from 1 p))))) ≡ someFirsts (behind ys (numbersOf (following p)))
   go-on v zs e n = rw (e, ahead) (one-more ys (take k (from 1 p)) (following (from k (from 1 p))) v n)
 
   pub stop : NoNumber ≡ numberOf (take k (from 1 p)) → none ≡ someFirsts (behind ys (numbersOf (following p)))
@@ -126,7 +129,8 @@ takes-firsts w ns = go (less? 258 (length ns))
     go (inr h) = rw (take-all 258 ns h)
 
 -- a word with its numbers, of which the first 258 are kept
-asked-kept : (w : Word) (n : ℕ) (xs ns : List ℕ) → length xs ≡ 258 → n ≤ 258 → take n xs ≡ firsts ns → (viewed (askedOf (foundOf (some w)) (Kept n)) xs ≡ cut (asks (some w) (some ns))) × InLine (askedOf (foundOf (some w)) (Kept n))
+asked-kept : (w : Word) (n : ℕ) (xs ns : List ℕ) → length xs ≡ 258 → n ≤ 258 → take n xs ≡ firsts ns
+    → (viewed (askedOf (maybeWord (some w)) (Kept n)) xs ≡ cut (asks (some w) (some ns))) × InLine (askedOf (maybeWord (some w)) (Kept n))
 asked-kept w n xs ns s h e =
     let m : n ≡ length (firsts ns) = sym (length-take-le n xs (omega arith)) ∙ ap length e in
     let t : takes w n ≡ takes w (length ns) = ap (takes w) m ∙ takes-firsts w ns in
@@ -136,7 +140,8 @@ asked-kept w n xs ns s h e =
     go true t = rw t (ap (AsksOf w) e, h)
     go false t = rw t (refl, tt)
 
-pub asked-line : (o : Option Word) (m : Option (List ℕ)) (ns : Numbers) (xs : List ℕ) → length xs ≡ 258 → Within ns → given ns xs ≡ someFirsts m → (viewed (askedOf (foundOf o) ns) xs ≡ cut (asks o m)) × InLine (askedOf (foundOf o) ns)
+pub asked-line : (o : Option Word) (m : Option (List ℕ)) (ns : Numbers) (xs : List ℕ) → length xs ≡ 258 → Within ns → given ns xs ≡ someFirsts m
+    → (viewed (askedOf (maybeWord o) ns) xs ≡ cut (asks o m)) × InLine (askedOf (maybeWord o) ns)
 asked-line none m ns xs s h e = (refl, tt)
 asked-line (some w) none Wrong xs s h e = (refl, tt)
 asked-line (some w) none (Kept n) xs s h e = let z : _≡_ {A = ℕ} 0 1 = cc in absurd (omega arith)
@@ -144,14 +149,16 @@ asked-line (some w) (some ns) Wrong xs s h e = let z : _≡_ {A = ℕ} 0 1 = cc 
 asked-line (some w) (some ns) (Kept n) xs s h e = asked-kept w n xs ns s h (cc)
 
 -- the answer of `asked`, by its tests
-pub asked-is : {f : Found} {ns : Numbers} (w : Word) (n : ℕ) → f ≡ Is w → ns ≡ Kept n → takes w n ≡ true → Asks w n ≡ askedOf f ns
+pub asked-is : {f : MaybeWord} {ns : Numbers} (w : Word) (n : ℕ) → f ≡ Is w → ns ≡ Kept n → takes w n ≡ true → Asks w n ≡ askedOf f ns
 asked-is w n e g t = rw (e, g, t)
 
-pub asked-not : {f : Found} {ns : Numbers} (w : Word) (n : ℕ) → f ≡ Is w → ns ≡ Kept n → takes w n ≡ false → Bad ≡ askedOf f ns
+pub asked-not : {f : MaybeWord} {ns : Numbers} (w : Word) (n : ℕ) → f ≡ Is w → ns ≡ Kept n → takes w n ≡ false → Bad ≡ askedOf f ns
 asked-not w n e g t = rw (e, g, t)
 
 -- what `read` answers
-pub read-line : (l : List ℕ) (k : ℕ) (f : Found) (ns : Numbers) (xs : List ℕ) (r : Line) → k ≡ reach 32 l → length xs ≡ 258 → f ≡ foundOf (wordOf (take k l)) → given ns xs ≡ someFirsts (numbersOf (following (from k l))) → Within ns → r ≡ askedOf f ns → (viewed r xs ≡ cut (meaning l)) × InLine r
+pub read-line : (l : List ℕ) (k : ℕ) (f : MaybeWord) (ns : Numbers) (xs : List ℕ) (r : Line) → k ≡ reach 32 l → length xs ≡ 258
+    → f ≡ maybeWord (wordOf (take k l)) → given ns xs ≡ someFirsts (numbersOf (following (from k l))) → Within ns → r ≡ askedOf f ns
+    → (viewed r xs ≡ cut (meaning l)) × InLine r
 unfolding meaning
 read-line l k f ns xs r end s w g h a =
     let n : given ns xs ≡ someFirsts (numbersOf (following (drop (reach 32 l) l))) = rw (part-from, end) at g in

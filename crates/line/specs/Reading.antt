@@ -5,8 +5,8 @@ use mathlib.Core.Option.{Option, some, none}
 use lib.ListN.{take}
 use Rattle.model.specs.Lists.{if_then_else_}
 use Rattle.script.specs.Lines.{Meaning, Unreadable, Asks as AsksOf, parts, takes}
-use Rattle.part.specs.declared.Found.{Found}
-use Rattle.part.specs.declared.Found.the-variants.{Is, Nothing}
+use Rattle.part.specs.declared.MaybeWord.{MaybeWord}
+use Rattle.part.specs.declared.MaybeWord.the-variants.{Is, Nothing}
 use Rattle.line.specs.declared.Numbers.{Numbers}
 use Rattle.line.specs.declared.Numbers.the-variants.{Kept, Wrong}
 use Rattle.line.specs.declared.Line.{Line}
@@ -35,7 +35,7 @@ Within (Kept n) = n ≤ 258
 Within Wrong = Unit {0}
 
 -- a word with so many numbers, where there is a word and they are its own
-abbrev pub askedOf : Found → Numbers → Line
+abbrev pub askedOf : MaybeWord → Numbers → Line
 askedOf Nothing ns = Bad
 askedOf (Is w) Wrong = Bad
 askedOf (Is w) (Kept n) = if takes w n then Asks w n else Bad

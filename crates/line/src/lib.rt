@@ -5,7 +5,7 @@ ghost use Prim.Native.Nat.{_≤_};
 ghost use lib.ListN.{length, take};
 ghost use Rattle.script.specs.Lines.{takes as takesOf, numbersOf, meaning};
 ghost use Rattle.line.specs.Reading.{following, firsts, someFirsts, given, Within, askedOf, viewed, InLine, cut};
-use part::Found;
+use part::MaybeWord;
 use part::Number;
 use script::Word;
 
@@ -73,10 +73,10 @@ fn takes(w: Word, n: usize) -> bool
 }
 
 // A word with its numbers, where there is a word and they are its own.
-fn asked(f: Found, ns: Numbers) -> Line
+fn asked(f: MaybeWord, ns: Numbers) -> Line
     ensures { λ r. ⌜ r ≡ askedOf f ns ⌝ }
 {
-    let Found::Is(w) = f else {
+    let MaybeWord::Is(w) = f else {
         return Line::Bad;
     };
     let Numbers::Kept(n) = ns else {

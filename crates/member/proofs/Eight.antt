@@ -25,13 +25,20 @@ adopted x (suc s) l e lo hi =
     ap (λ (k : List ℕ). x ∷ k) (rw (f, n, take-append-le s (take 7 l) [] (simp length-take (omega arith)), take-take s 7 l (omega arith), take-take s (suc s) l (omega arith)))
 
 -- `drop_head`: the 7 entries after the first, a 0, and v stored at the last place in use
-pub dropped : (v r : ℕ) (l : List ℕ) → length l ≡ 8 → 1 ≤ r → r ≤ 8 → take r (set (getD l 1 0 ∷ getD l 2 0 ∷ getD l 3 0 ∷ getD l 4 0 ∷ getD l 5 0 ∷ getD l 6 0 ∷ getD l 7 0 ∷ 0 ∷ []) (r - 1) v) ≡ drop 1 (take r l) ++ (v ∷ [])
+pub dropped : (v r : ℕ) (l : List ℕ) → length l ≡ 8 → 1 ≤ r → r ≤ 8
+    → take r (set (getD l 1 0 ∷ getD l 2 0 ∷ getD l 3 0 ∷ getD l 4 0 ∷ getD l 5 0 ∷ getD l 6 0 ∷ getD l 7 0 ∷ 0 ∷ []) (r - 1) v) ≡ drop 1 (take r l) ++ (v ∷ [])
 dropped v zero l e lo hi = absurd (omega arith)
 dropped v (suc s) [] e lo hi = absurd (omega arith)
 dropped v (suc s) (x ∷ l) e lo hi =
     let f : entries 7 l (0 ∷ []) ≡ take 7 l ++ (0 ∷ []) = entries-take l 7 (0 ∷ []) (omega arith) in
     let n : suc s - 1 ≡ s = omega arith in
-    rw (n, f, take-suc-set (take 7 l ++ (0 ∷ [])) s v (simp (length-append, length-take) (omega arith)), take-append-le s (take 7 l) (0 ∷ []) (simp length-take (omega arith)), take-take s 7 l (omega arith))
+    rw (
+      n,
+      f,
+      take-suc-set (take 7 l ++ (0 ∷ [])) s v (simp (length-append, length-take) (omega arith)),
+      take-append-le s (take 7 l) (0 ∷ []) (simp length-take (omega arith)),
+      take-take s 7 l (omega arith),
+    )
 
 -- the last entry in use
 pub last-in-use : (r : ℕ) (l : List ℕ) → length l ≡ 8 → 1 ≤ r → r ≤ 8 → lastOf (take r l) ≡ getD l (r - 1) 0

@@ -12,9 +12,9 @@ use lib.ListN.{length, getD}
 use Rattle.model.specs.Lists.{if_then_else_, option}
 use Rattle.model.specs.Table.{Member, membersIn, ids}
 use Rattle.model.specs.Ring.{bestSuccessor, onRing, movesFrom, movesToRing}
-use Rattle.table.specs.Formed.{Formed}
-use Rattle.ring.specs.Places.{nextPlace}
-use Rattle.ring.proofs.Laws.{best, no-best, member-count}
+use Rattle.table.specs.FormedWords.{FormedWords}
+use Rattle.best_successors.specs.Places.{nextPlace}
+use Rattle.best_successors.proofs.Laws.{best, no-best, member-count}
 use Rattle.moves.specs.Ways.{movesAt, noMore}
 
 -- with a place left to look at
@@ -56,7 +56,9 @@ module _ (ms : List Member) where
       go false (some y) = omega arith
   shifted (suc left) m x h = go (onRing ms x) (bestSuccessor ms x) (λ y. shifted left (suc m) y (omega arith))
     where
-      go : (b : Bool) (o : Option ℕ) → ((y : ℕ) → movesFrom ms left (suc (suc m)) y ≡ noMore (movesFrom ms (suc left) (suc m) y + 1) (length ms)) → (if b then suc m else option o (length ms) (λ y. movesFrom ms left (suc (suc m)) y)) ≡ noMore ((if b then m else option o (length ms) (λ y. movesFrom ms (suc left) (suc m) y)) + 1) (length ms)
+      go : (b : Bool) (o : Option ℕ) → ((y : ℕ) → movesFrom ms left (suc (suc m)) y ≡ noMore (movesFrom ms (suc left) (suc m) y + 1) (length ms))
+          → (if b then suc m else option o (length ms) (λ y. movesFrom ms left (suc (suc m)) y))
+          ≡ noMore ((if b then m else option o (length ms) (λ y. movesFrom ms (suc left) (suc m) y)) + 1) (length ms)
       go true o ih = omega arith
       go false none ih = omega arith
       go false (some y) ih = ih y
@@ -92,7 +94,7 @@ module _ (ws : List ℕ) where
     pub on-ring : onRing ms (idAt k) ≡ true → movesAt ws k ≡ 0
     on-ring e = look ms (length ms) 0 (idAt k) (omega (arith, member-count ws)) ∙ rw e
 
-    module _ (f : Formed ws) (e : onRing ms (idAt k) ≡ false) where
+    module _ (f : FormedWords ws) (e : onRing ms (idAt k) ≡ false) where
       pub stuck : n ≤ nextPlace ms k → movesAt ws k ≡ n
       stuck l = look ms (length ms) 0 (idAt k) (omega (arith, member-count ws)) ∙ rw (e, no-best ws k (nextPlace ms k) h refl f l) (member-count ws)
 

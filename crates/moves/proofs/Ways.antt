@@ -11,11 +11,11 @@ use Rattle.model.specs.Lists.{bit}
 use Rattle.model.specs.Table.{Member, membersIn, ids}
 use Rattle.model.specs.Ring.{onRing}
 use Rattle.laws.specs.Order.{equal?}
-use Rattle.table.specs.Formed.{Formed}
+use Rattle.table.specs.FormedWords.{FormedWords}
 use Rattle.places.specs.Each.{Each}
-use Rattle.ring.specs.Places.{nextPlace}
-use Rattle.cycle.specs.Far.{ringBit}
-use Rattle.moves.specs.Ways.{movesAt, noMore, Entry, known, unknown, Begun, Along}
+use Rattle.best_successors.specs.Places.{nextPlace}
+use Rattle.ring.specs.Far.{ringBit}
+use Rattle.moves.specs.Ways.{movesAt, noMore, SoFar, known, unknown, AllSoFar, Along}
 use Rattle.moves.proofs.Moves.{moves-few, on-ring, stuck, one-more}
 
 module _ (ws : List ℕ) where
@@ -33,24 +33,24 @@ module _ (ws : List ℕ) where
 
   -- Arrays
 
-  pub begins : (a : List ℕ) → Each ms (ringBit ms) n a → Begun ws a
-  begins a e = record { size = e .size; at = λ j l. go j l (onRing ms (idAt j)) refl (e .at j l) }
+  pub ring-known : (a : List ℕ) → Each ms (ringBit ms) n a → AllSoFar ws a
+  ring-known a e = record { size = e .size; at = λ j l. go j l (onRing ms (idAt j)) refl (e .at j l) }
     where
-      go : (j : ℕ) → j < n → (b : Bool) → onRing ms (idAt j) ≡ b → getD a j 0 ≡ bit (onRing ms (idAt j)) → Entry ws a j
+      go : (j : ℕ) → j < n → (b : Bool) → onRing ms (idAt j) ≡ b → getD a j 0 ≡ bit (onRing ms (idAt j)) → SoFar ws a j
       go j l true q v = known (v ∙ rw (q, on-ring ws j l q))
       go j l false q v = unknown (v ∙ rw q) q
 
   module _ (a : List ℕ) (j : ℕ) where
-    pub is-known : Entry ws a j → 0 < getD a j 0 → getD a j 0 ≡ movesAt ws j + 1
+    pub is-known : SoFar ws a j → 0 < getD a j 0 → getD a j 0 ≡ movesAt ws j + 1
     is-known (known e) h = e
     is-known (unknown e o) h = absurd (omega arith)
 
-    pub is-off : Entry ws a j → getD a j 0 ≡ 0 → off j
+    pub is-off : SoFar ws a j → getD a j 0 ≡ 0 → off j
     is-off (known e) h = absurd (omega arith)
     is-off (unknown e o) h = o
 
   -- with the moves at place y stored
-  module _ (a : List ℕ) (y v : ℕ) (h : y < n) (b : Begun ws a) (e : v ≡ movesAt ws y + 1) where
+  module _ (a : List ℕ) (y v : ℕ) (h : y < n) (b : AllSoFar ws a) (e : v ≡ movesAt ws y + 1) where
     stored-here : getD (set a y v) y 0 ≡ movesAt ws y + 1
     stored-here = getD-set-same a y v 0 (omega (arith, b .size)) ∙ e
 
@@ -72,10 +72,10 @@ module _ (ws : List ℕ) where
         go (inl r) = stored-at k (f r)
         go (inr r) = stored-known k (q (omega arith))
 
-    pub stored-begun : Begun ws (set a y v)
-    stored-begun = record { size = simp length-set (b .size); at = λ j l. go j (b .at j l) (equal? j y) }
+    pub stored-so-far : AllSoFar ws (set a y v)
+    stored-so-far = record { size = simp length-set (b .size); at = λ j l. go j (b .at j l) (equal? j y) }
       where
-        go : (j : ℕ) → Entry ws a j → (j ≡ y) ⊎ (j ≡ y → ⊥) → Entry ws (set a y v) j
+        go : (j : ℕ) → SoFar ws a j → (j ≡ y) ⊎ (j ≡ y → ⊥) → SoFar ws (set a y v) j
         go j i (inl r) = known (stored-at j (sym r))
         go j (known q) (inr r) = known (stored-known j q)
         go j (unknown q o) (inr r) = unknown (getD-set-other a y j v 0 r ∙ q) o
@@ -94,7 +94,7 @@ module _ (ws : List ℕ) where
   pub leads-none : (k : ℕ) → Leads k 0 k
   leads-none k e v q w = let z : 0 + e ≡ e = omega arith in rw z w
 
-  module _ (k c y j : ℕ) (f : Formed ws) (h : y < n) (o : off y) (t : j ≡ nextPlace ms y) (l : Leads k c y) where
+  module _ (k c y j : ℕ) (f : FormedWords ws) (h : y < n) (o : off y) (t : j ≡ nextPlace ms y) (l : Leads k c y) where
     -- no move leads on
     pub leads-stuck : (v : ℕ) → n ≤ v → n ≤ j → Along ws v (c + 1) k
     leads-stuck v u b =

@@ -6,7 +6,7 @@ use mathlib.Core.List.{List}
 use lib.ListN.{length, getD}
 use Rattle.model.specs.Table.{membersIn, ids}
 use Rattle.model.specs.Ring.{onRing, movesToRing}
-use Rattle.ring.specs.Places.{nextPlace}
+use Rattle.best_successors.specs.Places.{nextPlace}
 
 -- the moves to the ring of the member at place k
 abbrev pub movesAt : List ℕ → ℕ → ℕ
@@ -17,18 +17,18 @@ abbrev pub noMore : ℕ → ℕ → ℕ
 noMore a n = n - (n - a)
 
 -- an array has at place j one more than the moves, or 0 where they are not known yet: never on the ring
-pub data Entry (ws a : List ℕ) (j : ℕ) : Type 0 where
-  known : getD a j 0 ≡ movesAt ws j + 1 → Entry ws a j
-  unknown : getD a j 0 ≡ 0 → onRing (membersIn ws) (getD (ids (membersIn ws)) j 0) ≡ false → Entry ws a j
+pub data SoFar (ws a : List ℕ) (j : ℕ) : Type 0 where
+  known : getD a j 0 ≡ movesAt ws j + 1 → SoFar ws a j
+  unknown : getD a j 0 ≡ 0 → onRing (membersIn ws) (getD (ids (membersIn ws)) j 0) ≡ false → SoFar ws a j
 
 -- and so at the place of each member
-pub record Begun (ws a : List ℕ) : Type 0 where
+pub record AllSoFar (ws a : List ℕ) : Type 0 where
   pub size : getD ws 1 0 ≤ length a
-  pub at : (j : ℕ) → j < getD ws 1 0 → Entry ws a j
+  pub at : (j : ℕ) → j < getD ws 1 0 → SoFar ws a j
 
 -- and the moves at place k are known
-pub record Settled (ws : List ℕ) (k : ℕ) (a : List ℕ) : Type 0 where
-  pub begun : Begun ws a
+pub record KnownAt (ws : List ℕ) (k : ℕ) (a : List ℕ) : Type 0 where
+  pub so-far : AllSoFar ws a
   pub here : getD a k 0 ≡ movesAt ws k + 1
 
 -- from place k on, c members a move apart: each has v moves to the ring and those left of the way, but no more than there are members

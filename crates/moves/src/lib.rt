@@ -5,10 +5,10 @@ ghost use Prim.Native.Nat.{_<_};
 ghost use lib.ListN.{getD};
 ghost use Rattle.model.specs.Table.{membersIn};
 ghost use Rattle.model.specs.Ring.{movesToRing};
-ghost use Rattle.table.specs.Formed.{Formed};
+ghost use Rattle.table.specs.FormedWords.{FormedWords};
 ghost use Rattle.places.specs.Each.{Each};
-ghost use Rattle.ring.specs.Places.{BestPlaces};
-ghost use Rattle.moves.specs.Ways.{noMore, Begun, Settled, Measured};
+ghost use Rattle.best_successors.specs.Places.{BestPlaces};
+ghost use Rattle.moves.specs.Ways.{noMore, AllSoFar, KnownAt, Measured};
 
 // A way of so many places whose moves to the ring are not known, and the moves from where it leads: the member count if nowhere.
 struct Way {
@@ -25,13 +25,13 @@ fn no_more(a: u16, n: u16) -> u16
 
 // The way from place k. The array has by place one more than the moves to the ring, or 0 where they are not known.
 fn way_from(t: &[u32], best: &[u16; 256], a: &[u16; 256], k: usize) -> Way
-    requires { ⌜ Formed (now t) ⌝ }
+    requires { ⌜ FormedWords (now t) ⌝ }
     requires { ⌜ BestPlaces (now t) (now best) ⌝ }
-    requires { ⌜ Begun (now t) (now a) ⌝ }
+    requires { ⌜ AllSoFar (now t) (now a) ⌝ }
     requires { ⌜ (k < getD (now t) 1 0) × (getD (now a) k 0 ≡ 0) ⌝ }
     ensures { λ w. ⌜ Measured (now (t .entry)) k (w .steps) (w .value) ⌝ }
 {
-    let n = t[1] as usize;
+    let n = t[words::COUNT] as usize;
     let never = n as u16;
     let mut y = k;
     let mut c: usize = 0;
@@ -61,13 +61,13 @@ fn way_from(t: &[u32], best: &[u16; 256], a: &[u16; 256], k: usize) -> Way
 
 // The moves of each place of the way from place k are stored.
 fn store_way(t: &[u32], best: &[u16; 256], a: &mut [u16; 256], k: usize, way: Way)
-    requires { ⌜ Formed (now t) ⌝ }
+    requires { ⌜ FormedWords (now t) ⌝ }
     requires { ⌜ BestPlaces (now t) (now best) ⌝ }
-    requires { ⌜ Begun (now t) (now a) ⌝ }
+    requires { ⌜ AllSoFar (now t) (now a) ⌝ }
     requires { ⌜ Measured (now t) k (way .steps) (way .value) ⌝ }
-    ensures { λ _. ⌜ Settled (now (t .entry)) k (now (a .exit)) ⌝ }
+    ensures { λ _. ⌜ KnownAt (now (t .entry)) k (now (a .exit)) ⌝ }
 {
-    let n = t[1] as u16;
+    let n = t[words::COUNT] as u16;
     let v = way.value;
     let mut y = k;
     let mut left = way.steps;
@@ -79,12 +79,12 @@ fn store_way(t: &[u32], best: &[u16; 256], a: &mut [u16; 256], k: usize, way: Wa
 }
 
 // The moves at place k are stored, if they are not known, and with them those of its way.
-fn settle(t: &[u32], best: &[u16; 256], a: &mut [u16; 256], k: usize)
-    requires { ⌜ Formed (now t) ⌝ }
+fn find_moves(t: &[u32], best: &[u16; 256], a: &mut [u16; 256], k: usize)
+    requires { ⌜ FormedWords (now t) ⌝ }
     requires { ⌜ BestPlaces (now t) (now best) ⌝ }
-    requires { ⌜ Begun (now t) (now a) ⌝ }
+    requires { ⌜ AllSoFar (now t) (now a) ⌝ }
     requires { ⌜ k < getD (now t) 1 0 ⌝ }
-    ensures { λ _. ⌜ Settled (now (t .entry)) k (now (a .exit)) ⌝ }
+    ensures { λ _. ⌜ KnownAt (now (t .entry)) k (now (a .exit)) ⌝ }
 {
     if 0 < a[k] {
         return;
@@ -95,16 +95,16 @@ fn settle(t: &[u32], best: &[u16; 256], a: &mut [u16; 256], k: usize)
 
 // By place: the moves to the ring. Each is found once: no way is walked again. At first those of the ring are known.
 pub fn all_moves(t: &[u32], best: &[u16; 256]) -> [u16; 256]
-    requires { ⌜ Formed (now t) ⌝ }
+    requires { ⌜ FormedWords (now t) ⌝ }
     requires { ⌜ BestPlaces (now t) (now best) ⌝ }
     ensures { λ a. ⌜ Each (membersIn (now (t .entry))) (movesToRing (membersIn (now (t .entry)))) (getD (now (t .entry)) 1 0) a ⌝ }
 {
-    let n = t[1] as usize;
-    let mut found = cycle::ring_bits(t, best);
+    let n = t[words::COUNT] as usize;
+    let mut found = ring::ring_bits(t, best);
     let mut a = [0u16; 256];
     let mut k = 0;
     while k < n {
-        settle(t, best, &mut found, k);
+        find_moves(t, best, &mut found, k);
         a[k] = found[k] - 1;
         k += 1;
     }

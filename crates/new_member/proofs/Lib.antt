@@ -1,2 +1,2 @@
--- Laws that the proofs of this crate and of `start` cite.
+-- Laws that the proofs of this crate and of `new_table` cite.
 pub mod Members

@@ -50,7 +50,8 @@ take-ups (suc r) (suc n) xs x h = ap (λ (l : List ℕ). nextUp xs x ∷ l) (tak
 
 module _ (xs : List ℕ) where
   -- `write_round`: an entry more is stored, and then all are
-  pub ups-on : (l : List ℕ) (r k x v : ℕ) (whole : List ℕ) → k < r → v ≡ nextUp xs x → sets l (4 + k) (nextUps (r - k) xs x) ≡ whole → sets (set l (4 + k) v) (4 + (k + 1)) (nextUps (r - (k + 1)) xs v) ≡ whole
+  pub ups-on : (l : List ℕ) (r k x v : ℕ) (whole : List ℕ) → k < r → v ≡ nextUp xs x → sets l (4 + k) (nextUps (r - k) xs x) ≡ whole
+      → sets (set l (4 + k) v) (4 + (k + 1)) (nextUps (r - (k + 1)) xs v) ≡ whole
   ups-on l r k x v whole h u e =
       let q : 4 + (k + 1) ≡ suc (4 + k) = omega arith in
       let d : r - k ≡ suc (r - (k + 1)) = omega arith in
@@ -73,11 +74,15 @@ module _ (xs : List ℕ) where
       rw (g, f) (stored (recordOf (newMember r xs x)) l (omega (arith, record-length r (newMember r xs x) (next-ups-length r xs x))))
 
   -- `write_ahead`: eight entries y over the list of m, where none goes round the end
-  pub eight-ahead : (l m y : List ℕ) (i : ℕ) → rising xs ≡ true → i + 8 < length xs → m ≡ overlay (front (getD xs i 0)) l → y ≡ overlay (take 8 (take (length xs - (i + 1)) (drop (i + 1) xs))) (take (length m - 4) (drop 4 m)) → replaced m y 4 ≡ overlay (front (getD xs i 0) ++ nextUps 8 xs (getD xs i 0)) l
+  pub eight-ahead : (l m y : List ℕ) (i : ℕ) → rising xs ≡ true → i + 8 < length xs → m ≡ overlay (front (getD xs i 0)) l
+      → y ≡ overlay (take 8 (take (length xs - (i + 1)) (drop (i + 1) xs))) (take (length m - 4) (drop 4 m))
+      → replaced m y 4 ≡ overlay (front (getD xs i 0) ++ nextUps 8 xs (getD xs i 0)) l
   eight-ahead l m y i a h e f =
       let x : ℕ = getD xs i 0 in
       let q : i + 1 ≡ suc i = omega arith in
-      let s : take 8 (take (length xs - (i + 1)) (drop (i + 1) xs)) ≡ nextUps 8 xs x = rw (part-from (i + 1) xs, q) (sym (next-ups-place xs (rising-true xs a) 8 i (omega arith) (omega arith) ∙ take-append-le 8 (drop (suc i) xs) xs (simp length-drop (omega arith)))) in
+      let s : take 8 (take (length xs - (i + 1)) (drop (i + 1) xs)) ≡ nextUps 8 xs x =
+      rw (part-from (i + 1) xs, q) (sym (next-ups-place xs (rising-true xs a) 8 i (omega arith) (omega arith)
+      ∙ take-append-le 8 (drop (suc i) xs) xs (simp length-drop (omega arith)))) in
       overlay-more m l y (front x) (nextUps 8 xs x) 4 e refl (f ∙ ap (λ (z : List ℕ). overlay z (take (length m - 4) (drop 4 m))) s)
 
   module _ (t l : List ℕ) (x : ℕ) (e : t ≡ overlay (front x ++ nextUps 8 xs x) l) where

@@ -1,4 +1,4 @@
-// One record of a new table. For `start`; a caller of the library uses none of this.
+// One record of a new table. For `new_table`; a caller of the library uses none of this.
 ghost use mathlib.Core.Path.{_≡_};
 ghost use mathlib.Core.Bool.{true};
 ghost use mathlib.Core.List.{[], _∷_};
@@ -15,10 +15,10 @@ fn write_front(part: &mut [u32], xs: &[u32], i: usize)
     ensures { λ _. ⌜ now (part .exit) ≡ overlay (getD (now (xs .entry)) i 0 ∷ nextDown (now (xs .entry)) (getD (now (xs .entry)) i 0) ∷ 0 ∷ 0 ∷ []) (now (part .entry)) ⌝ }
 {
     let below = rising::place_below(xs, i);
-    part[0] = xs[i];
-    part[1] = xs[below];
-    part[2] = 0;
-    part[3] = 0;
+    part[words::ID] = xs[i];
+    part[words::PREDECESSOR] = xs[below];
+    part[words::PENDING] = 0;
+    part[words::CANDIDATE] = 0;
 }
 
 // The record of the identifier at place i with the next r up, round the end.
@@ -40,7 +40,8 @@ pub fn write_round(part: &mut [u32], xs: &[u32], i: usize, r: usize)
 // record with eight stay.
 pub fn write_ahead(part: &mut [u32], xs: &[u32], i: usize)
     requires { ⌜ (rising (now xs) ≡ true) × (i + 8 < length (now xs)) × (recordSize 8 ≤ length (now part)) ⌝ }
-    ensures { λ _. ⌜ ((r : ℕ) → r ≤ 8 → now (part .exit) ≡ overlay (recordOf (newMember r (now (xs .entry)) (getD (now (xs .entry)) i 0))) (now (part .exit))) × (drop (recordSize 8) (now (part .exit)) ≡ drop (recordSize 8) (now (part .entry))) ⌝ }
+    ensures { λ _. ⌜ ((r : ℕ) → r ≤ 8 → now (part .exit) ≡ overlay (recordOf (newMember r (now (xs .entry)) (getD (now (xs .entry)) i 0))) (now (part .exit)))
+        × (drop (recordSize 8) (now (part .exit)) ≡ drop (recordSize 8) (now (part .entry))) ⌝ }
 {
     write_front(part, xs, i);
     let above = i + 1;

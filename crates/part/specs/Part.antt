@@ -7,8 +7,8 @@ use Rattle.model.specs.Lists.{if_then_else_}
 use Rattle.script.specs.Lines.{value, isNumber, wordAmong}
 use Rattle.script.specs.declared.Word.{Word}
 use Rattle.script.specs.declared.Word.the-variants.{Out, Drop, Find, Audit}
-use Rattle.part.specs.declared.Found.{Found}
-use Rattle.part.specs.declared.Found.the-variants.{Is, Nothing}
+use Rattle.part.specs.declared.MaybeWord.{MaybeWord}
+use Rattle.part.specs.declared.MaybeWord.the-variants.{Is, Nothing}
 use Rattle.part.specs.declared.Number.{Number}
 use Rattle.part.specs.declared.Number.the-variants.{Value, NoNumber}
 
@@ -18,9 +18,9 @@ reach c [] = 0
 reach c (b ∷ l) = if eqb b c then 0 else suc (reach c l)
 
 -- the word found, if any
-abbrev pub foundOf : Option Word → Found
-foundOf none = Nothing
-foundOf (some w) = Is w
+abbrev pub maybeWord : Option Word → MaybeWord
+maybeWord none = Nothing
+maybeWord (some w) = Is w
 
 -- the word that a part is, if it is none of the first four
 unfoldable pub laterOf : List ℕ → Option Word

@@ -4,11 +4,11 @@ ghost use Prim.Native.Nat.{_≤_};
 ghost use lib.ListN.{length, take};
 ghost use Rattle.model.specs.Lists.{same as sameOf};
 ghost use Rattle.script.specs.Lines.{wordOf};
-ghost use Rattle.part.specs.Part.{reach, foundOf, laterOf, numberOf};
+ghost use Rattle.part.specs.Part.{reach, maybeWord, laterOf, numberOf};
 use script::Word;
 
 // The word that a part is.
-pub enum Found {
+pub enum MaybeWord {
     Is(Word),
     Nothing,
 }
@@ -52,39 +52,39 @@ fn same(a: &[u8], b: &[u8]) -> bool
 }
 
 // The word that a part is, if it is none of the first four.
-fn later_word(p: &[u8]) -> Found
-    ensures { λ r. ⌜ r ≡ foundOf (laterOf (now (p .entry))) ⌝ }
+fn later_word(p: &[u8]) -> MaybeWord
+    ensures { λ r. ⌜ r ≡ maybeWord (laterOf (now (p .entry))) ⌝ }
 {
     if same(p, b"out") {
-        return Found::Is(Word::Out);
+        return MaybeWord::Is(Word::Out);
     }
     if same(p, b"drop") {
-        return Found::Is(Word::Drop);
+        return MaybeWord::Is(Word::Drop);
     }
     if same(p, b"find") {
-        return Found::Is(Word::Find);
+        return MaybeWord::Is(Word::Find);
     }
     if same(p, b"audit") {
-        return Found::Is(Word::Audit);
+        return MaybeWord::Is(Word::Audit);
     }
-    Found::Nothing
+    MaybeWord::Nothing
 }
 
 // The word that a part is.
-pub fn word(p: &[u8]) -> Found
-    ensures { λ r. ⌜ r ≡ foundOf (wordOf (now (p .entry))) ⌝ }
+pub fn word(p: &[u8]) -> MaybeWord
+    ensures { λ r. ⌜ r ≡ maybeWord (wordOf (now (p .entry))) ⌝ }
 {
     if same(p, b"new") {
-        return Found::Is(Word::New);
+        return MaybeWord::Is(Word::New);
     }
     if same(p, b"join") {
-        return Found::Is(Word::Join);
+        return MaybeWord::Is(Word::Join);
     }
     if same(p, b"stab") {
-        return Found::Is(Word::Stab);
+        return MaybeWord::Is(Word::Stab);
     }
     if same(p, b"rect") {
-        return Found::Is(Word::Rect);
+        return MaybeWord::Is(Word::Rect);
     }
     later_word(p)
 }

@@ -1,4 +1,4 @@
--- Pairs, lists and tables: what each turn of the loops leaves to mark. Assumes nothing.
+-- Pairs, lists and tables: what each iteration of the loops leaves to mark. Assumes nothing.
 use Prim.Native.Nat.{ℕ, suc, _+_, _≤_, _<_}
 use mathlib.Core.Path.{_≡_, sym, _∙_}
 use mathlib.Core.List.{List, [], _∷_}
@@ -16,7 +16,7 @@ use Rattle.model.specs.Ring.{nobody, skips, principal, principals}
 use Rattle.laws.specs.Lists.{true-and}
 use Rattle.laws.specs.Words.{members-length}
 use Rattle.laws.specs.Pairs.{skipsIt, no-list}
-use Rattle.table.specs.Formed.{Formed}
+use Rattle.table.specs.FormedWords.{FormedWords}
 use Rattle.table.specs.Rank.{rank}
 use Rattle.table.proofs.Members.{id-of, ids-count}
 use Rattle.table.proofs.Place.{below-rank, above-rank, rank-past, rank-missing, stands, stands-there}
@@ -41,7 +41,7 @@ module _ (ws : List ℕ) where
   idAt j = getD (ids ms) j 0
 
   -- `rank_past`: whether b stands at place k
-  module _ (f : Formed ws) (k b : ℕ) where
+  module _ (f : FormedWords ws) (k b : ℕ) where
     pub here-past : stands ws k b ≡ true → k + 1 ≡ rank (ids ms) (suc b)
     here-past e = let w = stands-there ws k b e in rw (← (w .1), add-one k) (rank-past (ids ms) k (f .rises) (omega (arith, ids-count ws)))
 
@@ -51,7 +51,7 @@ module _ (ws : List ℕ) where
         q ∙ rank-missing (ids ms) b (λ u v. no (omega (arith, ids-count ws)) (rw q v))
 
   -- `mark_pair`: the ranges of places are the identifiers between
-  module _ (f : Formed ws) (q lo b hi : ℕ) (el : lo ≡ rank (ids ms) (suc q)) (eh : hi ≡ rank (ids ms) b) where
+  module _ (f : FormedWords ws) (q lo b hi : ℕ) (el : lo ≡ rank (ids ms) (suc q)) (eh : hi ≡ rank (ids ms) b) where
     above : (j : ℕ) → j < n → ltb q (idAt j) ≡ leb lo j
     above j l = rw el (above-rank (ids ms) q j (f .rises) (omega (arith, ids-count ws)))
 
@@ -65,7 +65,19 @@ module _ (ws : List ℕ) where
 
       pub pair-round : (d : List ℕ) → b ≤ q → Marks 256 (λ j. leb lo j && ltb j n) a c → Marks 256 (λ j. leb 0 j && ltb j hi) c d → Marks n (λ j. between q (idAt j) b) a d
       unfolding between
-      pair-round d h u v = record { size = v .size ∙ u .size; at = λ j l. v .at j (omega (arith, f .few)) ∙ rw (u .at j (omega (arith, f .few)), le-leb 0 j (omega arith), lt-ltb j n l, and-true (leb lo j), le-ltb q b h, above j l, below j l) (or-assoc (covered a j) (leb lo j) (ltb j hi)) }
+      pair-round d h u v = record {
+        size = v .size ∙ u .size;
+        at =
+            λ j l. v .at j (omega (arith, f .few)) ∙ rw (
+              u .at j (omega (arith, f .few)),
+              le-leb 0 j (omega arith),
+              lt-ltb j n l,
+              and-true (leb lo j),
+              le-ltb q b h,
+              above j l,
+              below j l,
+            ) (or-assoc (covered a j) (leb lo j) (ltb j hi));
+      }
 
   -- `mark_list`: what is marked and what the list p after q skips is what was marked at first and what the list of member k skips
   abbrev pub Rest : List ℕ → ℕ → List ℕ → ℕ → List ℕ → Type 0
@@ -73,12 +85,14 @@ module _ (ws : List ℕ) where
 
   -- one pair more
   module _ (a c : List ℕ) where
-    pub pair-marked : (q : ℕ) (p : List ℕ) → 0 < length p → Marks n (λ j. between q (idAt j) (getD p 0 0)) a c → (j : ℕ) → j < n → (covered c j || skips (idAt j) (getD p 0 0) (drop 1 p)) ≡ (covered a j || skips (idAt j) q p)
+    pub pair-marked : (q : ℕ) (p : List ℕ) → 0 < length p → Marks n (λ j. between q (idAt j) (getD p 0 0)) a c → (j : ℕ) → j < n
+        → (covered c j || skips (idAt j) (getD p 0 0) (drop 1 p)) ≡ (covered a j || skips (idAt j) q p)
     pair-marked q [] h m j l = absurd (omega arith)
     pair-marked q (b ∷ p) h m j l = rw (m .at j l) (or-assoc (covered a j) (between q (idAt j) b) (skips (idAt j) b p))
 
     -- `mark_skipped`: one list more
-    pub list-marked : (k : ℕ) → k < n → Marks n (λ j. skips (idAt j) (idAt k) (getD ms k nobody .successors)) a c → (j : ℕ) → j < n → (covered c j || any (skipsIt (idAt j)) (drop (k + 1) ms)) ≡ (covered a j || any (skipsIt (idAt j)) (drop k ms))
+    pub list-marked : (k : ℕ) → k < n → Marks n (λ j. skips (idAt j) (idAt k) (getD ms k nobody .successors)) a c → (j : ℕ) → j < n
+        → (covered c j || any (skipsIt (idAt j)) (drop (k + 1) ms)) ≡ (covered a j || any (skipsIt (idAt j)) (drop k ms))
     list-marked k h m j l =
         let i : k < length ms = omega (arith, members-length (getD ws 0 0) n (drop headerSize ws)) in
         rw (add-one k, drop-cons ms k nobody i, m .at j l, id-of ms k) (or-assoc (covered a j) (skipsIt (idAt j) (getD ms k nobody)) (any (skipsIt (idAt j)) (drop (suc k) ms)))

@@ -10,7 +10,7 @@ ghost use Rattle.model.specs.Lists.{if_then_else_};
 ghost use Rattle.model.specs.Identifier.{between};
 ghost use Rattle.model.specs.Table.{membersIn, ids};
 ghost use Rattle.model.specs.Ring.{nobody, skips, principals};
-ghost use Rattle.table.specs.Formed.{Formed};
+ghost use Rattle.table.specs.FormedWords.{FormedWords};
 ghost use Rattle.table.specs.Rank.{rank as rankOf};
 ghost use Rattle.places.specs.Each.{Each};
 ghost use Rattle.principal.specs.Marks.{Marks, Skipped, principalBit};
@@ -32,7 +32,7 @@ fn cover(reach: &mut [u16; 256], lo: usize, hi: usize)
 
 // The members between q and b are marked: lo members are not above q, and hi are below b.
 fn mark_pair(t: &[u32], reach: &mut [u16; 256], q: u32, lo: usize, b: u32, hi: usize)
-    requires { ⌜ Formed (now t) ⌝ }
+    requires { ⌜ FormedWords (now t) ⌝ }
     requires { ⌜ (lo ≡ rankOf (ids (membersIn (now t))) (suc q)) × (hi ≡ rankOf (ids (membersIn (now t))) b) × (hi ≤ getD (now t) 1 0) ⌝ }
     requires { ⌜ length (now reach) ≡ 256 ⌝ }
     ensures { λ _. ⌜ Marks (getD (now (t .entry)) 1 0) (λ j. between q (getD (ids (membersIn (now (t .entry)))) j 0) b) (now (reach .entry)) (now (reach .exit)) ⌝ }
@@ -41,14 +41,14 @@ fn mark_pair(t: &[u32], reach: &mut [u16; 256], q: u32, lo: usize, b: u32, hi: u
         cover(reach, lo, hi);
         return;
     }
-    let n = t[1] as usize;
+    let n = t[words::COUNT] as usize;
     cover(reach, lo, n);
     cover(reach, 0, hi);
 }
 
 // How many members are not above b, where k are below it.
 fn rank_past(t: &[u32], k: usize, b: u32) -> usize
-    requires { ⌜ Formed (now t) ⌝ }
+    requires { ⌜ FormedWords (now t) ⌝ }
     requires { ⌜ (k ≡ rankOf (ids (membersIn (now t))) b) × (k ≤ getD (now t) 1 0) ⌝ }
     ensures { λ p. ⌜ p ≡ rankOf (ids (membersIn (now (t .entry)))) (suc b) ⌝ }
 {
@@ -60,11 +60,13 @@ fn rank_past(t: &[u32], k: usize, b: u32) -> usize
 
 // The members that the list of the member at place k skips are marked.
 fn mark_list(t: &[u32], reach: &mut [u16; 256], k: usize)
-    requires { ⌜ Formed (now t) ⌝ }
+    requires { ⌜ FormedWords (now t) ⌝ }
     requires { ⌜ (k < getD (now t) 1 0) × (length (now reach) ≡ 256) ⌝ }
-    ensures { λ _. ⌜ Marks (getD (now (t .entry)) 1 0) (λ j. skips (getD (ids (membersIn (now (t .entry)))) j 0) (getD (ids (membersIn (now (t .entry)))) k 0) (getD (membersIn (now (t .entry))) k nobody .successors)) (now (reach .entry)) (now (reach .exit)) ⌝ }
+    ensures { λ _. ⌜ Marks (getD (now (t .entry)) 1 0)
+        (λ j. skips (getD (ids (membersIn (now (t .entry)))) j 0) (getD (ids (membersIn (now (t .entry)))) k 0)
+        (getD (membersIn (now (t .entry))) k nobody .successors)) (now (reach .entry)) (now (reach .exit)) ⌝ }
 {
-    let r = t[0] as usize;
+    let r = t[words::R] as usize;
     let at = words::offset(r, k);
     let from = at + words::LIST;
     let end = from + r;
@@ -83,11 +85,11 @@ fn mark_list(t: &[u32], reach: &mut [u16; 256], k: usize)
 
 // The members that some list skips are marked, where none was.
 fn mark_skipped(t: &[u32], reach: &mut [u16; 256])
-    requires { ⌜ Formed (now t) ⌝ }
+    requires { ⌜ FormedWords (now t) ⌝ }
     requires { ⌜ now reach ≡ replicate 256 0 ⌝ }
     ensures { λ _. ⌜ (length (now (reach .exit)) ≡ 256) × Skipped (now (t .entry)) (now (reach .exit)) ⌝ }
 {
-    let n = t[1] as usize;
+    let n = t[words::COUNT] as usize;
     let mut k = 0;
     while k < n {
         mark_list(t, reach, k);
@@ -104,10 +106,10 @@ fn larger(a: u16, b: u16) -> u16
 
 // By place: 1 for a principal, else 0. Each number takes the place of the reach that was read there.
 pub fn principal_bits(t: &[u32]) -> [u16; 256]
-    requires { ⌜ Formed (now t) ⌝ }
+    requires { ⌜ FormedWords (now t) ⌝ }
     ensures { λ a. ⌜ Each (membersIn (now (t .entry))) (principalBit (membersIn (now (t .entry)))) (getD (now (t .entry)) 1 0) a ⌝ }
 {
-    let n = t[1] as usize;
+    let n = t[words::COUNT] as usize;
     let mut a = [0u16; 256];
     mark_skipped(t, &mut a);
     let mut top: u16 = 0;
@@ -122,10 +124,10 @@ pub fn principal_bits(t: &[u32]) -> [u16; 256]
 
 // How many members are principals.
 pub fn count_principals(t: &[u32]) -> usize
-    requires { ⌜ Formed (now t) ⌝ }
+    requires { ⌜ FormedWords (now t) ⌝ }
     ensures { λ c. ⌜ (c ≡ principals (membersIn (now (t .entry)))) × (c ≤ getD (now (t .entry)) 1 0) ⌝ }
 {
-    let n = t[1] as usize;
+    let n = t[words::COUNT] as usize;
     let a = principal_bits(t);
     places::count_of(&a, n, 1)
 }

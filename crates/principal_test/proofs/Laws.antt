@@ -15,7 +15,7 @@ use Rattle.model.specs.Ring.{nobody}
 use Rattle.model.specs.Pairs.{Pair, neighbours, pairs, skippedBy, taken, principalReply}
 use Rattle.laws.specs.Words.{members-length}
 use Rattle.laws.specs.Pairs.{list-pairs}
-use Rattle.table.specs.Formed.{Formed}
+use Rattle.table.specs.FormedWords.{FormedWords}
 use Rattle.table.proofs.Members.{id-of, id-at, list-at, record-fits}
 use Rattle.principal_test.specs.Spared.{spared}
 
@@ -28,7 +28,10 @@ module _ (x : ℕ) where
   reply-here c [] qs h = absurd (omega arith)
   reply-here c (p ∷ ps) qs h = go (skippedBy x p) (reply-here (suc c) ps qs) h
     where
-      go : (b : Bool) → (spared x ps < length ps → 0 ∷ (suc c + spared x ps + 1) ∷ [] ≡ replyAfter (suc c) x (ps ++ qs)) → (if b then 0 else suc (spared x ps)) < suc (length ps) → 0 ∷ (c + (if b then 0 else suc (spared x ps)) + 1) ∷ [] ≡ bit (not (b || any (skippedBy x) (if b then [] else taken x (ps ++ qs)))) ∷ (c + suc (length (if b then [] else taken x (ps ++ qs)))) ∷ []
+      go : (b : Bool) → (spared x ps < length ps → 0 ∷ (suc c + spared x ps + 1) ∷ [] ≡ replyAfter (suc c) x (ps ++ qs))
+          → (if b then 0 else suc (spared x ps)) < suc (length ps)
+          → 0 ∷ (c + (if b then 0 else suc (spared x ps)) + 1) ∷ []
+          ≡ bit (not (b || any (skippedBy x) (if b then [] else taken x (ps ++ qs)))) ∷ (c + suc (length (if b then [] else taken x (ps ++ qs)))) ∷ []
       go true ih l = let e : c + 0 + 1 ≡ c + 1 = omega arith in rw e
       go false ih l =
           let e : c + suc (spared x ps) + 1 ≡ suc c + spared x ps + 1 = omega arith in
@@ -39,7 +42,10 @@ module _ (x : ℕ) where
   reply-later c [] qs h = let e : c + 0 ≡ c = omega arith in rw e
   reply-later c (p ∷ ps) qs h = go (skippedBy x p) (reply-later (suc c) ps qs) h
     where
-      go : (b : Bool) → (length ps ≤ spared x ps → replyAfter (suc c + length ps) x qs ≡ replyAfter (suc c) x (ps ++ qs)) → suc (length ps) ≤ (if b then 0 else suc (spared x ps)) → replyAfter (c + suc (length ps)) x qs ≡ bit (not (b || any (skippedBy x) (if b then [] else taken x (ps ++ qs)))) ∷ (c + suc (length (if b then [] else taken x (ps ++ qs)))) ∷ []
+      go : (b : Bool) → (length ps ≤ spared x ps → replyAfter (suc c + length ps) x qs ≡ replyAfter (suc c) x (ps ++ qs))
+          → suc (length ps) ≤ (if b then 0 else suc (spared x ps))
+          → replyAfter (c + suc (length ps)) x qs ≡ bit (not (b || any (skippedBy x) (if b then [] else taken x (ps ++ qs))))
+          ∷ (c + suc (length (if b then [] else taken x (ps ++ qs)))) ∷ []
       go true ih l = absurd (omega arith)
       go false ih l =
           let e : c + suc (length ps) ≡ suc c + length ps = omega arith in
@@ -51,7 +57,7 @@ abbrev pub Counted : List ℕ → ℕ → ℕ → ℕ → ℕ → Type 0
 Counted ws k x a i = i + spared x (neighbours a (drop i (getD (membersIn ws) k nobody .successors))) ≡ spared x (neighbours (getD (ids (membersIn ws)) k 0) (getD (membersIn ws) k nobody .successors))
 
 -- the record of the member at place k starts at `at`
-module _ (ws : List ℕ) (f : Formed ws) (k at : ℕ) (h : k < getD ws 1 0) (e : at ≡ headerSize + k * recordSize (getD ws 0 0)) where
+module _ (ws : List ℕ) (f : FormedWords ws) (k at : ℕ) (h : k < getD ws 1 0) (e : at ≡ headerSize + k * recordSize (getD ws 0 0)) where
   abbrev list : List ℕ
   list = getD (membersIn ws) k nobody .successors
 
@@ -74,7 +80,9 @@ module _ (ws : List ℕ) (f : Formed ws) (k at : ℕ) (h : k < getD ws 1 0) (e :
       count-here l b = let z : i ≡ i + 0 = omega arith in z ∙ (rw (list-from i l, b) at c)
 
       pub count-on : i < getD ws 0 0 → between a x (getD ws (at + 4 + i) 0) ≡ false → Counted ws k x (getD ws (at + 4 + i) 0) (i + 1)
-      count-on l b = let z : i + 1 + spared x (neighbours (getD ws (at + 4 + i) 0) (drop (suc i) list)) ≡ i + suc (spared x (neighbours (getD ws (at + 4 + i) 0) (drop (suc i) list))) = omega arith in rw (add-one i) (rw (add-one i) at z ∙ (rw (list-from i l, b) at c))
+      count-on l b = let z : i + 1 + spared x (neighbours (getD ws (at + 4 + i) 0) (drop (suc i) list))
+          ≡ i + suc (spared x (neighbours (getD ws (at + 4 + i) 0) (drop (suc i) list))) =
+          omega arith in rw (add-one i) (rw (add-one i) at z ∙ (rw (list-from i l, b) at c))
 
       -- there is none
       pub count-all : i ≤ getD ws 0 0 → getD ws 0 0 ≤ i → getD ws 0 0 ≡ spared x (neighbours (getD (ids (membersIn ws)) k 0) list)
@@ -93,7 +101,8 @@ no-pairs ws x c k h =
     let w : c ≡ c + 0 = omega arith in
     rw z (ap (λ (y : ℕ). 1 ∷ y ∷ []) w)
 
-module _ (ws : List ℕ) (f : Formed ws) (x c k before : ℕ) (h : k < getD ws 1 0) (e : before ≡ spared x (neighbours (getD (ids (membersIn ws)) k 0) (getD (membersIn ws) k nobody .successors))) where
+module _ (ws : List ℕ) (f : FormedWords ws) (x c k before : ℕ) (h : k < getD ws 1 0)
+    (e : before ≡ spared x (neighbours (getD (ids (membersIn ws)) k 0) (getD (membersIn ws) k nobody .successors))) where
   abbrev ms : List Member
   ms = membersIn ws
 

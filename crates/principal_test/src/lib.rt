@@ -7,19 +7,19 @@ ghost use Rattle.model.specs.Ring.{nobody};
 ghost use Rattle.model.specs.Answer.{accepted};
 ghost use Rattle.model.specs.Pairs.{neighbours, principalReply};
 ghost use Rattle.model.specs.Calls.{principalAnswer};
-ghost use Rattle.table.specs.Formed.{Formed};
-ghost use Rattle.tested.specs.Answers.{answerOf};
+ghost use Rattle.table.specs.FormedWords.{FormedWords};
+ghost use Rattle.answers.specs.Tested.{answerOf};
 ghost use Rattle.principal_test.specs.Spared.{spared};
-use refusal::Standing;
-use tested::Tested;
+use answers::tested::Tested;
+use standing::Standing;
 
 // How many pairs of the extended list of the member at place k come before the first that skips x: all r if none does.
 fn pairs_before(t: &[u32], k: usize, x: u32) -> usize
-    requires { ⌜ Formed (now t) ⌝ }
+    requires { ⌜ FormedWords (now t) ⌝ }
     requires { ⌜ k < getD (now t) 1 0 ⌝ }
     ensures { λ c. ⌜ c ≡ spared x (neighbours (getD (ids (membersIn (now (t .entry)))) k 0) (getD (membersIn (now (t .entry))) k nobody .successors)) ⌝ }
 {
-    let r = t[0] as usize;
+    let r = t[words::R] as usize;
     let at = words::offset(r, k);
     let from = at + words::LIST;
     let mut a = t[at];
@@ -37,11 +37,11 @@ fn pairs_before(t: &[u32], k: usize, x: u32) -> usize
 
 // The test of x on a well-formed table, whether or not x is a member.
 fn test_pairs(t: &[u32], x: u32) -> Tested
-    requires { ⌜ Formed (now t) ⌝ }
+    requires { ⌜ FormedWords (now t) ⌝ }
     ensures { λ a. ⌜ answerOf a ≡ accepted (principalReply (membersIn (now (t .entry))) x) ⌝ }
 {
-    let r = t[0] as usize;
-    let n = t[1] as usize;
+    let r = t[words::R] as usize;
+    let n = t[words::COUNT] as usize;
     let mut taken: usize = 0;
     let mut left = n;
     while 0 < left {
@@ -60,7 +60,7 @@ fn test_pairs(t: &[u32], x: u32) -> Tested
 pub fn principal_test(t: &[u32], n: u32) -> Tested
     ensures { λ a. ⌜ answerOf a ≡ principalAnswer (now (t .entry)) n ⌝ }
 {
-    match refusal::standing_of(t, n) {
+    match standing::standing_of(t, n) {
         Standing::At(_) => test_pairs(t, n),
         Standing::Declined(c) => Tested::Declined(c),
     }

@@ -42,7 +42,8 @@ digit-more n a (suc j) v h l =
         ten = rw length-set (l .ten);
         within = omega (arith, l .within);
         small = omega (arith, l .small);
-        whole = rw (stored a (suc j) (48 + v % 10) (omega (arith, l .ten, l .within))) (sym (append-assoc (digitsWithin (suc j) (v / 10)) ((48 + v % 10) ∷ []) (drop (suc (suc j)) a)) ∙ (rw (le-ltb v 10 h) at (l .whole)));
+        whole = rw (stored a (suc j) (48 + v % 10) (omega (arith, l .ten, l .within)))
+            (sym (append-assoc (digitsWithin (suc j) (v / 10)) ((48 + v % 10) ∷ []) (drop (suc (suc j)) a)) ∙ (rw (le-ltb v 10 h) at (l .whole)));
       },
     )
 

@@ -7,7 +7,7 @@ use native.Mathlib.Omega.{arith}
 use lib.ListN.{length, getD, drop, set, length-append, drop-of-length-le}
 use lib.Seq.{sets, length-sets, drop-cons}
 use Rattle.script.specs.Text.{digits, numbersText}
-use Rattle.put.specs.Written.{Wrote}
+use Rattle.put.specs.Wrote.{Wrote}
 
 -- stores of two runs are those of the joined run
 pub sets-append : (a b o : List ℕ) (at : ℕ) → sets o at (a ++ b) ≡ sets (sets o at a) (at + length a) b

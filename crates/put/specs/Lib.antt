@@ -1,2 +1,2 @@
 -- What the contracts of a function that writes cite.
-pub mod Written
+pub mod Wrote

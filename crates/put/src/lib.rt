@@ -2,7 +2,7 @@
 ghost use Prim.Native.Nat.{_+_, _≤_};
 ghost use lib.ListN.{length};
 ghost use Rattle.script.specs.Text.{digits, numbersText};
-ghost use Rattle.put.specs.Written.{Wrote};
+ghost use Rattle.put.specs.Wrote.{Wrote};
 
 // Some bytes.
 pub fn bytes(out: &mut [u8], at: usize, s: &[u8]) -> usize

@@ -3,9 +3,9 @@
 // and leave all tests to `due::field_at`, `next_of` and `part_of`.
 ghost use mathlib.Core.Path.{_≡_};
 ghost use Rattle.model.specs.Image.{fieldAt};
-ghost use Rattle.field.specs.Answers.{answerOf};
+ghost use Rattle.answers.specs.Field.{answerOf};
 ghost use Rattle.reader.specs.Read.{nextOf, partOf, contentsOf, advanced};
-use field::Field;
+use answers::field::Field;
 
 // The image, and the position of the field that is next.
 pub struct Reader<'a> {

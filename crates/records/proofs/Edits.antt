@@ -26,8 +26,8 @@ join u v x y z = simp append-assoc
 abbrev body : List ℕ → List ℕ
 body ws = drop headerSize ws
 
-abbrev width : List ℕ → ℕ
-width ws = recordSize (getD ws 0 0)
+abbrev recordWords : List ℕ → ℕ
+recordWords ws = recordSize (getD ws 0 0)
 
 after-header : (ws : List ℕ) (n : ℕ) → drop (headerSize + n) ws ≡ drop n (body ws)
 after-header ws n = sym (drop-drop n headerSize ws)
@@ -37,38 +37,49 @@ module _ (ws : List ℕ) where
   count = getD ws 1 0
 
   -- the first k members, new ones, and those from j on; and then zs over what follows
-  module _ (k j : ℕ) (new : List Member) (zs : List ℕ) (kn : k ≤ count) (jn : j ≤ count) (fits : headerSize + count * width ws ≤ length ws) where
+  module _ (k j : ℕ) (new : List Member) (zs : List ℕ) (kn : k ≤ count) (jn : j ≤ count) (fits : headerSize + count * recordWords ws ≤ length ws) where
     abbrev left : List Member
     left = take k (membersIn ws) ++ (new ++ drop j (membersIn ws))
 
-    records-fit : count * width ws ≤ length (body ws)
+    records-fit : count * recordWords ws ≤ length (body ws)
     records-fit = simp length-drop (omega arith)
 
-    edited-records : recordsOf left ≡ take (k * width ws) (body ws) ++ (recordsOf new ++ take ((count - j) * width ws) (drop (j * width ws) (body ws)))
+    edited-records : recordsOf left ≡ take (k * recordWords ws) (body ws) ++ (recordsOf new ++ take ((count - j) * recordWords ws) (drop (j * recordWords ws) (body ws)))
     edited-records =
         let r = getD ws 0 0 in
-        let s = span k count (width ws) kn in
-        let t = span j count (width ws) jn in
+        let s = span k count (recordWords ws) kn in
+        let t = span j count (recordWords ws) jn in
         let f = records-fit in
-        rw (records-append, records-append, members-take r k count (body ws) kn, members-drop r j count (body ws) jn, records-written r k (body ws) (omega arith), records-written r (count - j) (drop (j * width ws) (body ws)) (simp length-drop (omega arith)))
+        rw (
+          records-append,
+          records-append,
+          members-take r k count (body ws) kn,
+          members-drop r j count (body ws) jn,
+          records-written r k (body ws) (omega arith),
+          records-written r (count - j) (drop (j * recordWords ws) (body ws)) (simp length-drop (omega arith)),
+        )
 
     edited-count : length left ≡ k + (length new + (count - j))
     edited-count = simp (length-append, length-take, length-drop, members-length) (omega arith)
 
     -- vs are the new members' records, and z the number of words after the header up to the end of zs
-    edited : (vs : List ℕ) (z : ℕ) → recordsOf new ≡ vs → z ≡ k * width ws + (length vs + ((count - j) * width ws + length zs)) →
-        headerOf (withMembers left (tableOf ws)) ++ (take (k * width ws) (body ws) ++ (vs ++ (take ((count - j) * width ws) (drop (j * width ws) (body ws)) ++ (zs ++ drop z (body ws))))) ≡ overlay (wordsOf (withMembers left (tableOf ws)) ++ zs) ws
+    edited : (vs : List ℕ) (z : ℕ) → recordsOf new ≡ vs → z ≡ k * recordWords ws + (length vs + ((count - j) * recordWords ws + length zs)) →
+        headerOf (withMembers left (tableOf ws)) ++ (take (k * recordWords ws) (body ws)
+        ++ (vs ++ (take ((count - j) * recordWords ws) (drop (j * recordWords ws) (body ws)) ++ (zs ++ drop z (body ws)))))
+        ≡ overlay (wordsOf (withMembers left (tableOf ws)) ++ zs) ws
     edited vs z qv qz =
-        let s = span k count (width ws) kn in
-        let t = span j count (width ws) jn in
+        let s = span k count (recordWords ws) kn in
+        let t = span j count (recordWords ws) jn in
         let f = records-fit in
         let U = withMembers left (tableOf ws) in
-        let tail = take ((count - j) * width ws) (drop (j * width ws) (body ws)) in
-        let v = take (k * width ws) (body ws) ++ (vs ++ tail) in
+        let tail = take ((count - j) * recordWords ws) (drop (j * recordWords ws) (body ws)) in
+        let v = take (k * recordWords ws) (body ws) ++ (vs ++ tail) in
         let l : length (v ++ zs) ≡ z = simp (length-append, length-take, length-drop) (omega arith) in
-        let e : wordsOf U ++ zs ≡ headerOf U ++ (v ++ zs) = ap (λ (x : List ℕ). headerOf U ++ (x ++ zs)) (edited-records ∙ ap (λ (x : List ℕ). take (k * width ws) (body ws) ++ (x ++ tail)) qv) in
+        let e : wordsOf U ++ zs ≡ headerOf U ++ (v ++ zs) =
+        ap (λ (x : List ℕ). headerOf U ++ (x ++ zs)) (edited-records ∙ ap (λ (x : List ℕ). take (k * recordWords ws) (body ws) ++ (x ++ tail)) qv) in
         let n : length (wordsOf U ++ zs) ≡ headerSize + z = ap length e ∙ omega (arith, l) in
-        sym (ap₂ (λ (x : List ℕ) (i : ℕ). x ++ drop i ws) e n ∙ ap (λ (x : List ℕ). (headerOf U ++ (v ++ zs)) ++ x) (after-header ws z) ∙ ap (λ (x : List ℕ). headerOf U ++ x) (join (take (k * width ws) (body ws)) vs tail zs (drop z (body ws))))
+        sym (ap₂ (λ (x : List ℕ) (i : ℕ). x ++ drop i ws) e n ∙ ap (λ (x : List ℕ). (headerOf U ++ (v ++ zs)) ++ x) (after-header ws z)
+        ∙ ap (λ (x : List ℕ). headerOf U ++ x) (join (take (k * recordWords ws) (body ws)) vs tail zs (drop z (body ws))))
 
 -- a written table: nothing is cleared after it
 written-exact : (T : Table) (ws : List ℕ) → overlay (wordsOf T ++ []) ws ≡ written T ws
@@ -99,14 +110,18 @@ lent-at : (ws : List ℕ) (at n : ℕ) → at ≡ headerSize + n → lent at ws 
 lent-at ws at n e = part-from at ws ∙ ap (λ (i : ℕ). drop i ws) e ∙ after-header ws n
 
 module _ (ws : List ℕ) (h : headerSize ≤ length ws) where
-  pub insert-words : (v : Member) (at end k : ℕ) (ys : List ℕ) → length (v .successors) ≡ getD ws 0 0 → Gap (v .id) (membersIn ws) k → k ≤ getD ws 1 0 → at ≡ headerSize + k * width ws → end ≡ headerSize + getD ws 1 0 * width ws → end + width ws ≤ length ws → ys ≡ recordOf v ++ (take (end - at) (lent at ws) ++ drop (end - at + width ws) (lent at ws)) → set (back at ws ys) 1 (getD ws 1 0 + 1) ≡ written (withMembers (inserted v (membersIn ws)) (tableOf ws)) ws
+  pub insert-words : (v : Member) (at end k : ℕ) (ys : List ℕ) → length (v .successors) ≡ getD ws 0 0 → Gap (v .id) (membersIn ws) k → k ≤ getD ws 1 0
+      → at ≡ headerSize + k * recordWords ws → end ≡ headerSize + getD ws 1 0 * recordWords ws → end + recordWords ws ≤ length ws
+      → ys ≡ recordOf v ++ (take (end - at) (lent at ws) ++ drop (end - at + recordWords ws) (lent at ws))
+      → set (back at ws ys) 1 (getD ws 1 0 + 1) ≡ written (withMembers (inserted v (membersIn ws)) (tableOf ws)) ws
   insert-words v at end k ys lv g kb ea ee fits ey =
       let b : ℕ = getD ws 1 0 in
-      let w : ℕ = width ws in
+      let w : ℕ = recordWords ws in
       let s = span k b w kb in
       let u : end - at ≡ (b - k) * w = omega arith in
       let U = withMembers (take k (membersIn ws) ++ (v ∷ drop k (membersIn ws))) (tableOf ws) in
-      let y : ys ≡ recordOf v ++ (take ((b - k) * w) (drop (k * w) (body ws)) ++ drop (k * w + ((b - k) * w + w)) (body ws)) = ey ∙ rw (u, lent-at ws at (k * w) ea, drop-drop ((b - k) * w + w) (k * w) (body ws)) in
+      let y : ys ≡ recordOf v ++ (take ((b - k) * w) (drop (k * w) (body ws)) ++ drop (k * w + ((b - k) * w + w)) (body ws)) =
+      ey ∙ rw (u, lent-at ws at (k * w) ea, drop-drop ((b - k) * w + w) (k * w) (body ws)) in
       ap (λ (x : List ℕ). set x 1 (b + 1)) (back-at ws h at (k * w) ys ea)
       ∙ header-counted (tableOf ws) (U .members) (b + 1) (take (k * w) (body ws) ++ ys) (sym (edited-count ws k k (v ∷ []) [] kb kb (omega arith) ∙ omega arith))
       ∙ ap (λ (x : List ℕ). headerOf U ++ (take (k * w) (body ws) ++ x)) y
@@ -114,28 +129,36 @@ module _ (ws : List ℕ) (h : headerSize ≤ length ws) where
       ∙ written-exact U ws
       ∙ ap (λ (x : List Member). written (withMembers x (tableOf ws)) ws) (sym (inserted-at v g))
 
-  pub replace-words : (v : Member) (at k : ℕ) (ys : List ℕ) → length (v .successors) ≡ getD ws 0 0 → At (v .id) (membersIn ws) k → at ≡ headerSize + k * width ws → headerSize + getD ws 1 0 * width ws ≤ length ws → ys ≡ recordOf v ++ drop (width ws) (lent at ws) → back at ws ys ≡ written (withMembers (replaced v (membersIn ws)) (tableOf ws)) ws
+  pub replace-words : (v : Member) (at k : ℕ) (ys : List ℕ) → length (v .successors) ≡ getD ws 0 0 → At (v .id) (membersIn ws) k
+      → at ≡ headerSize + k * recordWords ws → headerSize + getD ws 1 0 * recordWords ws ≤ length ws → ys ≡ recordOf v ++ drop (recordWords ws) (lent at ws)
+      → back at ws ys ≡ written (withMembers (replaced v (membersIn ws)) (tableOf ws)) ws
   replace-words v at k ys lv g ea fits ey =
       let b : ℕ = getD ws 1 0 in
-      let w : ℕ = width ws in
+      let w : ℕ = recordWords ws in
       let kb : suc k ≤ b = within-count ws g in
       let s = span (suc k) b w kb in
       let n = suc-mul k w in
       let x : List ℕ = drop (suc k * w) (body ws) in
       let U = withMembers (take k (membersIn ws) ++ (v ∷ drop (suc k) (membersIn ws))) (tableOf ws) in
-      let f : drop w (drop (k * w) (body ws)) ≡ take ((b - suc k) * w) x ++ drop (b * w) (body ws) = drop-drop w (k * w) (body ws) ∙ rw (← n, s, ← drop-drop ((b - suc k) * w) (suc k * w) (body ws), take-append-drop) in
+      let f : drop w (drop (k * w) (body ws)) ≡ take ((b - suc k) * w) x ++ drop (b * w) (body ws) =
+      drop-drop w (k * w) (body ws) ∙ rw (← n, s, ← drop-drop ((b - suc k) * w) (suc k * w) (body ws), take-append-drop) in
       let y : ys ≡ recordOf v ++ (take ((b - suc k) * w) x ++ drop (b * w) (body ws)) = ey ∙ rw (lent-at ws at (k * w) ea, f) in
       back-at ws h at (k * w) ys ea
-      ∙ ap (λ (l : List ℕ). l ++ (take (k * w) (body ws) ++ ys)) (header-same (tableOf ws) (U .members) (edited-count ws k (suc k) (v ∷ []) [] (omega arith) kb fits ∙ omega (arith, members-length (getD ws 0 0) b (body ws))))
+      ∙ ap (λ (l : List ℕ). l ++ (take (k * w) (body ws) ++ ys))
+      (header-same (tableOf ws) (U .members) (edited-count ws k (suc k) (v ∷ []) [] (omega arith) kb fits
+      ∙ omega (arith, members-length (getD ws 0 0) b (body ws))))
       ∙ ap (λ (l : List ℕ). headerOf U ++ (take (k * w) (body ws) ++ l)) y
       ∙ edited ws k (suc k) (v ∷ []) [] (omega arith) kb fits (recordOf v) (b * w) (append-nil (recordOf v)) (omega (arith, record-length (getD ws 0 0) v lv))
       ∙ written-exact U ws
       ∙ ap (λ (l : List Member). written (withMembers l (tableOf ws)) ws) (sym (replaced-at v g))
 
-  pub remove-words : (x at end k : ℕ) (ys : List ℕ) → rising (ids (membersIn ws)) ≡ true → At x (membersIn ws) k → at ≡ headerSize + k * width ws → end ≡ headerSize + getD ws 1 0 * width ws → end ≤ length ws → ys ≡ drop (width ws) (take (end - at) (lent at ws)) ++ (replicate (width ws) 0 ++ drop (end - at) (lent at ws)) → set (back at ws ys) 1 (getD ws 1 0 - 1) ≡ writtenFreed (without x (tableOf ws)) ws
+  pub remove-words : (x at end k : ℕ) (ys : List ℕ) → rising (ids (membersIn ws)) ≡ true → At x (membersIn ws) k → at ≡ headerSize + k * recordWords ws
+      → end ≡ headerSize + getD ws 1 0 * recordWords ws → end ≤ length ws
+      → ys ≡ drop (recordWords ws) (take (end - at) (lent at ws)) ++ (replicate (recordWords ws) 0 ++ drop (end - at) (lent at ws))
+      → set (back at ws ys) 1 (getD ws 1 0 - 1) ≡ writtenFreed (without x (tableOf ws)) ws
   remove-words x at end k ys rise g ea ee fits ey =
       let b : ℕ = getD ws 1 0 in
-      let w : ℕ = width ws in
+      let w : ℕ = recordWords ws in
       let kb : suc k ≤ b = within-count ws g in
       let s = span (suc k) b w kb in
       let n = suc-mul k w in
@@ -144,7 +167,16 @@ module _ (ws : List ℕ) (h : headerSize ≤ length ws) where
       let zs : List ℕ = replicate w 0 in
       let e : k * w + w ≡ suc k * w = omega arith in
       let ns : List Member = take k (membersIn ws) ++ drop (suc k) (membersIn ws) in
-      let y : ys ≡ take ((b - suc k) * w) (drop (suc k * w) (body ws)) ++ (zs ++ drop (k * w + (w + (b - suc k) * w)) (body ws)) = ey ∙ rw (u, lent-at ws at (k * w) ea, drop-take w (w + (b - suc k) * w) (drop (k * w) (body ws)), u′, drop-drop w (k * w) (body ws), e, drop-drop (w + (b - suc k) * w) (k * w) (body ws)) in
+      let y : ys ≡ take ((b - suc k) * w) (drop (suc k * w) (body ws)) ++ (zs ++ drop (k * w + (w + (b - suc k) * w)) (body ws)) =
+      ey ∙ rw (
+        u,
+        lent-at ws at (k * w) ea,
+        drop-take w (w + (b - suc k) * w) (drop (k * w) (body ws)),
+        u′,
+        drop-drop w (k * w) (body ws),
+        e,
+        drop-drop (w + (b - suc k) * w) (k * w) (body ws),
+      ) in
       ap (λ (l : List ℕ). set l 1 (b - 1)) (back-at ws h at (k * w) ys ea)
       ∙ header-counted (tableOf ws) ns (b - 1) (take (k * w) (body ws) ++ ys) (sym (edited-count ws k (suc k) [] zs (omega arith) kb (omega arith) ∙ omega arith))
       ∙ ap (λ (l : List ℕ). headerOf (withMembers ns (tableOf ws)) ++ (take (k * w) (body ws) ++ l)) y

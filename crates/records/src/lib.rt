@@ -8,48 +8,48 @@ ghost use Rattle.model.specs.Ring.{live};
 ghost use Rattle.model.specs.Steps.{inserted, replaced, without, withMembers};
 ghost use Rattle.model.specs.Calls.{written, writtenFreed};
 ghost use Rattle.member.specs.View.{view};
-ghost use Rattle.table.specs.Formed.{Formed};
+ghost use Rattle.table.specs.FormedWords.{FormedWords};
 ghost use Rattle.table.specs.Rank.{rank as rankOf};
-ghost use Rattle.table.specs.Search.{Stands};
+ghost use Rattle.table.specs.Located.{Stands};
 use member::Member;
 
 // The record of m among the others, at the place k where it is missing; the records above move up through the lent tail.
 pub fn insert_at(t: &mut [u32], k: usize, m: Member)
-    requires { ⌜ Formed (now t) ⌝ }
+    requires { ⌜ FormedWords (now t) ⌝ }
     requires { ⌜ (getD (now t) 1 0 < 256) × (size (tableOf (now t)) + recordSize (getD (now t) 0 0) ≤ length (now t)) ⌝ }
     requires { ⌜ (live (membersIn (now t)) (m .id) ≡ false) × (k ≡ rankOf (ids (membersIn (now t))) (m .id)) ⌝ }
     ensures { λ _. ⌜ now (t .exit) ≡ written (withMembers (inserted (view (getD (now (t .entry)) 0 0) m) (membersIn (now (t .entry)))) (tableOf (now (t .entry)))) (now (t .entry)) ⌝ }
 {
-    let r = t[0] as usize;
-    let n = t[1] as usize;
+    let r = t[words::R] as usize;
+    let n = t[words::COUNT] as usize;
     let at = words::offset(r, k);
     let end = words::offset(r, n);
     words::put_in(&mut t[at..], end - at, m, r);
-    t[1] = (n + 1) as u32;
+    t[words::COUNT] = (n + 1) as u32;
 }
 
 // The record of m in the place k of the member that has its identifier.
 pub fn replace_at(t: &mut [u32], k: usize, m: Member)
-    requires { ⌜ Formed (now t) ⌝ }
+    requires { ⌜ FormedWords (now t) ⌝ }
     requires { ⌜ Stands (now t) k (m .id) ⌝ }
     ensures { λ _. ⌜ now (t .exit) ≡ written (withMembers (replaced (view (getD (now (t .entry)) 0 0) m) (membersIn (now (t .entry)))) (tableOf (now (t .entry)))) (now (t .entry)) ⌝ }
 {
-    let r = t[0] as usize;
+    let r = t[words::R] as usize;
     let at = words::offset(r, k);
     words::write_member(&mut t[at..], m, r);
 }
 
 // The record at the place k goes; those above move down, and the words freed become 0.
 pub fn remove_at(t: &mut [u32], k: usize)
-    requires { ⌜ Formed (now t) ⌝ }
+    requires { ⌜ FormedWords (now t) ⌝ }
     requires { ⌜ k < getD (now t) 1 0 ⌝ }
     ensures { λ _. ⌜ now (t .exit) ≡ writtenFreed (without (getD (ids (membersIn (now (t .entry)))) k 0) (tableOf (now (t .entry)))) (now (t .entry)) ⌝ }
 {
-    let r = t[0] as usize;
-    let n = t[1] as usize;
+    let r = t[words::R] as usize;
+    let n = t[words::COUNT] as usize;
     let at = words::offset(r, k);
     let end = words::offset(r, n);
-    let w = words::width(r);
+    let w = words::record_size(r);
     words::close_gap(&mut t[at..], end - at, w);
-    t[1] = (n - 1) as u32;
+    t[words::COUNT] = (n - 1) as u32;
 }

@@ -8,7 +8,7 @@ use lib.Seq.{sets, length-take-le}
 use Rattle.laws.specs.Parts.{part-from}
 use Rattle.script.specs.Lines.{lines, meaning}
 use Rattle.script.specs.Session.{lineText, lineWords, textFrom, wordsFrom}
-use Rattle.put.specs.Written.{Wrote}
+use Rattle.put.specs.Wrote.{Wrote}
 use Rattle.put.proofs.Writing.{sets-append}
 use Rattle.rehearsal.specs.Outcomes.{Passed}
 
@@ -32,7 +32,8 @@ may-print s t₀ o₀ t o p n at k g some least = (omega (arith, g .count), omeg
 
 -- it is printed; the next one starts at e
 module _ (s t₀ o₀ t o p : List ℕ) (n at k e : ℕ) (g : Going s t₀ o₀ t o p n at) (some : 0 < length p) (least : k ≤ length p) (d : Passed p k e) where
-  module _ (r : ℕ) (u m : List ℕ) (w : Wrote (lineText (n + 1) t (meaning (take k p))) at o r m) (v : u ≡ lineWords t (meaning (take k p))) (b : r ≤ at + 10 * (length (take k p) + 1)) (q : length m ≡ length o) (c : length u ≡ length t) where
+  module _ (r : ℕ) (u m : List ℕ) (w : Wrote (lineText (n + 1) t (meaning (take k p))) at o r m) (v : u ≡ lineWords t (meaning (take k p)))
+      (b : r ≤ at + 10 * (length (take k p) + 1)) (q : length m ≡ length o) (c : length u ≡ length t) where
     abbrev text : List ℕ
     text = lineText (suc n) t (meaning (take k p))
 

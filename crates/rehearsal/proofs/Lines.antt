@@ -22,7 +22,9 @@ first-line (b ∷ []) h = go (eqb b 10)
     go false = refl
 first-line (b ∷ x ∷ l) h = go (eqb b 10) (first-line (x ∷ l) (omega arith))
   where
-    go : (t : Bool) → lines (x ∷ l) ≡ take (reach 10 (x ∷ l)) (x ∷ l) ∷ lines (drop (suc (reach 10 (x ∷ l))) (x ∷ l)) → (if t then [] ∷ lines (x ∷ l) else onFirst b (lines (x ∷ l))) ≡ take (if t then 0 else suc (reach 10 (x ∷ l))) (b ∷ x ∷ l) ∷ lines (drop (suc (if t then 0 else suc (reach 10 (x ∷ l)))) (b ∷ x ∷ l))
+    go : (t : Bool) → lines (x ∷ l) ≡ take (reach 10 (x ∷ l)) (x ∷ l) ∷ lines (drop (suc (reach 10 (x ∷ l))) (x ∷ l))
+        → (if t then [] ∷ lines (x ∷ l) else onFirst b (lines (x ∷ l)))
+        ≡ take (if t then 0 else suc (reach 10 (x ∷ l))) (b ∷ x ∷ l) ∷ lines (drop (suc (if t then 0 else suc (reach 10 (x ∷ l)))) (b ∷ x ∷ l))
     go true e = refl
     go false e = ap (onFirst b) e
 

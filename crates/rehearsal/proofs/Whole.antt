@@ -11,7 +11,7 @@ use borrow.Author.Tests.{le-leb, lt-leb}
 use Rattle.model.specs.Lists.{overlay}
 use Rattle.script.specs.Lines.{counted, lines}
 use Rattle.script.specs.Session.{textFrom, wordsFrom, sessionText, sessionWords}
-use Rattle.put.specs.Written.{Wrote}
+use Rattle.put.specs.Wrote.{Wrote}
 use Rattle.rehearsal.specs.declared.Outcome.the-variants.{Written, TooShort}
 use Rattle.rehearsal.specs.Outcomes.{roomy, outcome, outAfter, wordsAfter, Within}
 
@@ -31,7 +31,8 @@ module _ (bs ws out : List ℕ) (n : ℕ) (exact : n ≡ length (take n bs)) (sa
       let e : roomy bs out ≡ false = lt-leb (10 * length (counted bs) + 10) (length out) (omega (arith, counts)) in
       (rw e, rw e, rw e, tt)
 
-  pub whole : (t m : List ℕ) (r : ℕ) → 10 * n + 10 ≤ length out → Wrote (textFrom 1 ws (lines (take n bs))) 0 out r m → t ≡ wordsFrom ws (lines (take n bs)) → r ≤ length out → length m ≡ length out → (Written r ≡ outcome bs ws out) × (m ≡ outAfter bs ws out) × (t ≡ wordsAfter bs ws out) × Within (Written r) m
+  pub whole : (t m : List ℕ) (r : ℕ) → 10 * n + 10 ≤ length out → Wrote (textFrom 1 ws (lines (take n bs))) 0 out r m → t ≡ wordsFrom ws (lines (take n bs))
+      → r ≤ length out → length m ≡ length out → (Written r ≡ outcome bs ws out) × (m ≡ outAfter bs ws out) × (t ≡ wordsAfter bs ws out) × Within (Written r) m
   unfolding outcome outAfter wordsAfter sessionText sessionWords
   whole t m r h w v l q =
       let e : roomy bs out ≡ true = le-leb (10 * length (counted bs) + 10) (length out) (omega (arith, counts)) in

@@ -5,7 +5,7 @@ ghost use lib.ListN.{length, take};
 ghost use Rattle.script.specs.Lines.{counted as countedOf, lines};
 ghost use Rattle.script.specs.Session.{textFrom, wordsFrom};
 ghost use Rattle.part.specs.Part.{reach};
-ghost use Rattle.put.specs.Written.{Wrote};
+ghost use Rattle.put.specs.Wrote.{Wrote};
 ghost use Rattle.rehearsal.specs.Outcomes.{outcome as outcomeOf, outAfter, wordsAfter, Within, Passed};
 
 // What a session gives: the count of bytes written, or the slice for them is too short.
@@ -28,7 +28,8 @@ fn past(p: &[u8], k: usize) -> usize
 // All lines: what is printed for them stands at the front of `out`.
 fn run(s: &[u8], t: &mut [u32], out: &mut [u8]) -> usize
     requires { ⌜ (length (now s) ≤ 65536) × (10 * length (now s) + 10 ≤ length (now out)) ⌝ }
-    ensures { λ r. ⌜ (Wrote (textFrom 1 (now (t .entry)) (lines (now (s .entry)))) 0 (now (out .entry)) r (now (out .exit))) × (now (t .exit) ≡ wordsFrom (now (t .entry)) (lines (now (s .entry)))) × (r ≤ length (now (out .entry))) ⌝ }
+    ensures { λ r. ⌜ (Wrote (textFrom 1 (now (t .entry)) (lines (now (s .entry)))) 0 (now (out .entry)) r (now (out .exit)))
+        × (now (t .exit) ≡ wordsFrom (now (t .entry)) (lines (now (s .entry)))) × (r ≤ length (now (out .entry))) ⌝ }
 {
     let mut p = s;
     let mut n: u32 = 0;
@@ -36,7 +37,7 @@ fn run(s: &[u8], t: &mut [u32], out: &mut [u8]) -> usize
     while 0 < p.len() {
         let k = part::until(p, 10);
         n += 1;
-        at = turn::run_line(&p[..k], n, t, out, at);
+        at = run_line::run_line(&p[..k], n, t, out, at);
         let e = past(p, k);
         p = &p[e..];
     }
@@ -57,7 +58,9 @@ fn counted(s: &[u8]) -> usize
 // The session: its output stands at the front of `out`, later bytes stay, and the table is as the session leaves it.
 // Where `out` is shorter than ten bytes for each byte that counts, and ten more, nothing is changed.
 pub fn session(input: &[u8], t: &mut [u32], out: &mut [u8]) -> Outcome
-    ensures { λ r. ⌜ (r ≡ outcomeOf (now (input .entry)) (now (t .entry)) (now (out .entry))) × (now (out .exit) ≡ outAfter (now (input .entry)) (now (t .entry)) (now (out .entry))) × (now (t .exit) ≡ wordsAfter (now (input .entry)) (now (t .entry)) (now (out .entry))) × (Within r (now (out .exit))) ⌝ }
+    ensures { λ r. ⌜ (r ≡ outcomeOf (now (input .entry)) (now (t .entry)) (now (out .entry)))
+        × (now (out .exit) ≡ outAfter (now (input .entry)) (now (t .entry)) (now (out .entry)))
+        × (now (t .exit) ≡ wordsAfter (now (input .entry)) (now (t .entry)) (now (out .entry))) × (Within r (now (out .exit))) ⌝ }
 {
     let n = counted(input);
     if out.len() < 10 * n + 10 {

@@ -1,2 +1,3 @@
--- Laws that the proofs of this crate and of the crates above cite.
-pub mod Laws
+-- Laws that the proofs of this crate cite.
+pub mod Orbit
+pub mod Rings

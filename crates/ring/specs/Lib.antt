@@ -1,2 +1,2 @@
 -- What the contracts of this crate cite besides the model.
-pub mod Places
+pub mod Far

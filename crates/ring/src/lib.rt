@@ -1,147 +1,93 @@
-// Best successors, by places in the table: the moves round the ring go by them. For the crates above; each function asks for a well-formed table.
+// The members on the ring: those on a cycle of moves, found by doubling the moves. For the crates above, which hand over a well-formed table and
+// its best successors.
 ghost use mathlib.Core.Path.{_≡_};
-ghost use Prim.Native.Nat.{_<_, _≤_};
+ghost use Prim.Native.Nat.{_≤_};
 ghost use lib.ListN.{length, getD};
-ghost use Rattle.model.specs.Lists.{every};
-ghost use Rattle.model.specs.Table.{membersIn, ids};
-ghost use Rattle.model.specs.Ring.{nobody, hasLive, searched, passedBy, passedByAll};
-ghost use Rattle.table.specs.Formed.{Formed};
-ghost use Rattle.ring.specs.Places.{placeOf, firstPlace, nextPlace, BestPlaces};
+ghost use Rattle.model.specs.Table.{membersIn};
+ghost use Rattle.model.specs.Ring.{ringMembers};
+ghost use Rattle.table.specs.FormedWords.{FormedWords};
+ghost use Rattle.places.specs.Each.{Each};
+ghost use Rattle.best_successors.specs.Places.{BestPlaces};
+ghost use Rattle.ring.specs.Far.{fromPlace, Doubled, FarPlaces, Marked, ringBit};
 
-// What the search of a list for its first live entry tells.
-pub struct Search {
-    // the place of that entry, or the member count where none is live
-    pub place: usize,
-    // how many entries were passed over
-    pub passed: usize,
+// Where an array's moves lead from place j; the member count n stands for none and stays.
+fn onward(a: &[u16; 256], n: usize, j: u16) -> u16
+    requires { ⌜ n ≤ 256 ⌝ }
+    ensures { λ x. ⌜ x ≡ fromPlace n (now (a .entry)) j ⌝ }
+{
+    let k = j as usize;
+    if k < n {
+        return a[k];
+    }
+    n as u16
 }
 
-// The identifier of the member at a place.
-pub fn id_at(t: &[u32], k: usize) -> u32
-    requires { ⌜ Formed (now t) ⌝ }
-    requires { ⌜ k < getD (now t) 1 0 ⌝ }
-    ensures { λ x. ⌜ x ≡ getD (ids (membersIn (now (t .entry)))) k 0 ⌝ }
+// The places that an array's moves, made twice, lead to.
+fn doubled(a: &[u16; 256], n: usize) -> [u16; 256]
+    requires { ⌜ n ≤ 256 ⌝ }
+    ensures { λ d. ⌜ Doubled n (now (a .entry)) d ⌝ }
 {
-    let r = t[0] as usize;
-    let at = words::offset(r, k);
-    t[at]
-}
-
-// The place of the member x, or the member count where x is none; looked for first at the place guessed.
-pub fn place(t: &[u32], guess: usize, x: u32) -> usize
-    requires { ⌜ Formed (now t) ⌝ }
-    requires { ⌜ guess < getD (now t) 1 0 ⌝ }
-    ensures { λ k. ⌜ (k ≡ placeOf (ids (membersIn (now (t .entry)))) x) × (k ≤ getD (now (t .entry)) 1 0) ⌝ }
-{
-    if id_at(t, guess) == x {
-        return guess;
-    }
-    let n = t[1] as usize;
-    let k = table::rank(t, x);
-    if table::stands_at(t, k, x) {
-        return k;
-    }
-    n
-}
-
-// The search of a list for its first live entry; each is looked for first at the place guessed.
-pub fn first_live(t: &[u32], guess: usize, l: &[u32]) -> Search
-    requires { ⌜ Formed (now t) ⌝ }
-    requires { ⌜ guess < getD (now t) 1 0 ⌝ }
-    ensures { λ s. ⌜ (s .place ≡ firstPlace (membersIn (now (t .entry))) (now (l .entry))) × (s .place ≤ getD (now (t .entry)) 1 0) × (s .passed ≡ searched (membersIn (now (t .entry))) (now (l .entry)) .passed) ⌝ }
-{
-    let n = t[1] as usize;
-    let mut p = l;
-    while 0 < p.len() {
-        let k = place(t, guess, p[0]);
-        if k < n {
-            return Search {
-                place: k,
-                passed: l.len() - p.len(),
-            };
-        }
-        p = &p[1..];
-    }
-    Search {
-        place: n,
-        passed: l.len(),
-    }
-}
-
-// The place after k, round the end: where the best successor of the member at k stands on a settled ring.
-fn place_after(n: usize, k: usize) -> usize
-    requires { ⌜ k < n ⌝ }
-    ensures { λ j. ⌜ j < n ⌝ }
-{
-    if k + 1 < n {
-        return k + 1;
-    }
-    0
-}
-
-// The search of the list of the member at place k: where its best successor stands, if it has one. On a settled ring the first look finds it.
-pub fn best_of(t: &[u32], k: usize) -> Search
-    requires { ⌜ Formed (now t) ⌝ }
-    requires { ⌜ k < getD (now t) 1 0 ⌝ }
-    ensures { λ s. ⌜ (s .place ≡ nextPlace (membersIn (now (t .entry))) k) × (s .place ≤ getD (now (t .entry)) 1 0) × (s .passed ≡ passedBy (membersIn (now (t .entry))) (getD (membersIn (now (t .entry))) k nobody)) × (s .passed ≤ getD (now (t .entry)) 0 0) ⌝ }
-{
-    let r = t[0] as usize;
-    let n = t[1] as usize;
-    let at = words::offset(r, k) + words::LIST;
-    let end = at + r;
-    let l = &t[at..end];
-    let next = place_after(n, k);
-    if id_at(t, next) == l[0] {
-        return Search {
-            place: next,
-            passed: 0,
-        };
-    }
-    first_live(t, next, l)
-}
-
-// The search of each list: the places of all best successors are put into the array, and the entries passed over are added up.
-pub fn fill_best(t: &[u32], best: &mut [u16; 256]) -> u32
-    requires { ⌜ Formed (now t) ⌝ }
-    requires { ⌜ length (now best) ≡ 256 ⌝ }
-    ensures { λ passed. ⌜ BestPlaces (now (t .entry)) (now (best .exit)) × (passed ≡ passedByAll (membersIn (now (t .entry)))) ⌝ }
-{
-    let n = t[1] as usize;
-    let mut passed: u32 = 0;
+    let mut d = [0u16; 256];
     let mut k = 0;
     while k < n {
-        let s = best_of(t, k);
-        best[k] = s.place as u16;
-        passed += s.passed as u32;
+        d[k] = onward(a, n, a[k]);
         k += 1;
     }
-    passed
+    d
 }
 
-// The places of all best successors, each found once.
-pub fn best_places(t: &[u32]) -> [u16; 256]
-    requires { ⌜ Formed (now t) ⌝ }
-    ensures { λ a. ⌜ BestPlaces (now (t .entry)) a ⌝ }
+// The places that as many moves as there are members, or more, lead to: found by doubling the moves.
+fn far_places(t: &[u32], best: &[u16; 256]) -> [u16; 256]
+    requires { ⌜ FormedWords (now t) ⌝ }
+    requires { ⌜ BestPlaces (now t) (now best) ⌝ }
+    ensures { λ a. ⌜ FarPlaces (now (t .entry)) a ⌝ }
 {
-    let mut a = [0u16; 256];
-    fill_best(t, &mut a);
+    let n = t[words::COUNT] as usize;
+    let mut a = doubled(best, n);
+    let mut moves: usize = 2;
+    while moves < n {
+        a = doubled(&a, n);
+        moves += moves;
+    }
     a
 }
 
-// Has each member's list a live entry?
-pub fn all_live(t: &[u32], best: &[u16; 256]) -> bool
-    requires { ⌜ Formed (now t) ⌝ }
-    requires { ⌜ BestPlaces (now t) (now best) ⌝ }
-    ensures { λ b. ⌜ b ≡ every (hasLive (membersIn (now (t .entry)))) (membersIn (now (t .entry))) ⌝ }
+// By place: 1 where the place is one of the first n numbers, else 0.
+fn marks(a: &[u16; 256], n: usize) -> [u16; 256]
+    requires { ⌜ (n ≤ 256) × (n ≤ length (now a)) ⌝ }
+    ensures { λ m. ⌜ Marked n (now (a .entry)) m ⌝ }
 {
-    let n = t[1] as usize;
     let none = n as u16;
+    let mut m = [0u16; 256];
     let mut k = 0;
     while k < n {
-        if best[k] == none {
-            return false;
+        let j = a[k];
+        if j < none {
+            m[j as usize] = 1;
         }
         k += 1;
     }
-    true
+    m
+}
+
+// By place: 1 for a member on the ring, else 0. On it are those that so many moves lead to.
+pub fn ring_bits(t: &[u32], best: &[u16; 256]) -> [u16; 256]
+    requires { ⌜ FormedWords (now t) ⌝ }
+    requires { ⌜ BestPlaces (now t) (now best) ⌝ }
+    ensures { λ a. ⌜ Each (membersIn (now (t .entry))) (ringBit (membersIn (now (t .entry)))) (getD (now (t .entry)) 1 0) a ⌝ }
+{
+    let n = t[words::COUNT] as usize;
+    let far = far_places(t, best);
+    marks(&far, n)
+}
+
+// How many members are on the ring.
+pub fn count_ring(t: &[u32], best: &[u16; 256]) -> usize
+    requires { ⌜ FormedWords (now t) ⌝ }
+    requires { ⌜ BestPlaces (now t) (now best) ⌝ }
+    ensures { λ c. ⌜ (c ≡ ringMembers (membersIn (now (t .entry)))) × (c ≤ getD (now (t .entry)) 1 0) ⌝ }
+{
+    let n = t[words::COUNT] as usize;
+    let on = ring_bits(t, best);
+    places::count_of(&on, n, 1)
 }

@@ -1,5 +1,5 @@
 // Rising identifiers: whether they rise, the places of each one's neighbours, round the end, and how many are at or below another.
-// For `start` and `held`; a caller of the library uses none of this.
+// For `new_table` and `held`; a caller of the library uses none of this.
 ghost use mathlib.Core.Path.{_≡_};
 ghost use mathlib.Core.Bool.{true};
 ghost use Prim.Native.Nat.{_<_};

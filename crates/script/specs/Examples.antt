@@ -49,5 +49,8 @@ output =
     49 ∷ 50 ∷ 32 ∷ 102 ∷ 105 ∷ 110 ∷ 100 ∷ 32 ∷ 111 ∷ 107 ∷ 32 ∷ 50 ∷ 48 ∷ 32 ∷ 52 ∷ 48 ∷ 32 ∷ 49 ∷ 32 ∷ 48 ∷ 10 ∷ []
 
 session : sessionText input noMembers ≡ output
-unfolding sessionText lineText lineWords wordAnswer wordWords answered unread answerText fieldsText digits meaning numbersOf wordOf isNumber between after formedMember formed wellFormed candidateInside sound idealMember ideal verdict stabilizeFromSuccessor stabilizeFromPredecessor stabilize stabilizeReply nextStep renews full cutsOff tooFewPrincipals noNewTable joinRefusal memberRefusal leaveRefusal auditRefusal newRefusal joinAnswer joinWords stabilizeAnswer stabilizeWords rectifyAnswer rectifyWords leaveAnswer leaveWords lookupAnswer auditAnswer newAnswer newWords callAnswer callWords space
+unfolding sessionText lineText lineWords wordAnswer wordWords answered unread answerText fieldsText digits meaning numbersOf wordOf isNumber between after
+    formedMember formed wellFormed candidateInside sound idealMember ideal verdict stabilizeFromSuccessor stabilizeFromPredecessor stabilize stabilizeReply
+    nextStep renews full cutsOff tooFewPrincipals noNewTable joinRefusal memberRefusal leaveRefusal auditRefusal newRefusal joinAnswer joinWords stabilizeAnswer
+    stabilizeWords rectifyAnswer rectifyWords leaveAnswer leaveWords lookupAnswer auditAnswer newAnswer newWords callAnswer callWords space
 session = refl

@@ -6,11 +6,11 @@ ghost use Rattle.model.specs.Answer.{accepted};
 ghost use Rattle.model.specs.Settle.{afterRound, afterSettle, settleReply};
 ghost use Rattle.model.specs.Calls.{written, roundAnswer, roundWords, settleAnswer, settleWords};
 ghost use Rattle.theory.specs.Runs.{Good};
-ghost use Rattle.judged.specs.Answers.{answerOf as judgedOf};
-ghost use Rattle.settled.specs.Answers.{answerOf as settledOf};
+ghost use Rattle.answers.specs.Verdict.{answerOf as verdictOf};
+ghost use Rattle.answers.specs.Settled.{answerOf as settledOf};
 ghost use Rattle.settle.specs.Begun.{Begins};
-use judged::Judged;
-use settled::Settled;
+use answers::settled::Settled;
+use answers::verdict::Verdict;
 
 // A table before its first round.
 enum Begun {
@@ -26,7 +26,7 @@ fn begun_of(t: &[u32]) -> Begun
 {
     if table::well_formed(t) {
         let mut best = [0u16; 256];
-        let passed = ring::fill_best(t, &mut best);
+        let passed = best_successors::fill_best(t, &mut best);
         let count = principal::count_principals(t);
         if verdict::is_sound(t, &best, count) {
             return Begun::Passed(passed);
@@ -75,12 +75,12 @@ fn rounds_of(t: &mut [u32], limit: u32, passed: u32) -> Settled
 }
 
 // One round: the verdict after it, or 1 or 14 with the table unchanged.
-pub fn round(t: &mut [u32]) -> Judged
-    ensures { λ a. ⌜ (judgedOf a ≡ roundAnswer (now (t .entry))) × (now (t .exit) ≡ roundWords (now (t .entry))) ⌝ }
+pub fn round(t: &mut [u32]) -> Verdict
+    ensures { λ a. ⌜ (verdictOf a ≡ roundAnswer (now (t .entry))) × (now (t .exit) ≡ roundWords (now (t .entry))) ⌝ }
 {
     match begun_of(t) {
-        Begun::Passed(_) => Judged::Verdict(round_of(t)),
-        Begun::Declined(c) => Judged::Declined(c),
+        Begun::Passed(_) => Verdict::Is(round_of(t)),
+        Begun::Declined(c) => Verdict::Declined(c),
     }
 }
 

@@ -1,2 +1,2 @@
 -- What the contracts of this crate cite besides the model.
-pub mod Turn
+pub mod TakenStep

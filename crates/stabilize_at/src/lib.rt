@@ -7,16 +7,16 @@ ghost use Rattle.model.specs.Ring.{named};
 ghost use Rattle.model.specs.Answer.{accepted};
 ghost use Rattle.model.specs.Steps.{stabilizeReply, nextStep, stabilized};
 ghost use Rattle.model.specs.Calls.{written};
-ghost use Rattle.table.specs.Formed.{Formed};
-ghost use Rattle.table.specs.Search.{Stands};
-ghost use Rattle.step.specs.Answers.{answerOf};
-ghost use Rattle.stabilize_at.specs.Turn.{Taken};
+ghost use Rattle.table.specs.FormedWords.{FormedWords};
+ghost use Rattle.table.specs.Located.{Stands};
+ghost use Rattle.answers.specs.Step.{answerOf};
+ghost use Rattle.stabilize_at.specs.TakenStep.{Taken};
+use answers::step::Step;
 use member::Member;
-use step::Step;
-use table::Search;
+use table::Located;
 
 // One step of a member.
-struct Turn {
+struct TakenStep {
     // the record that it leaves
     member: Member,
     // what it replies
@@ -24,8 +24,8 @@ struct Turn {
 }
 
 // Pending 0, and the successor stands at place k: it is adopted, and its predecessor may be a better candidate.
-fn from_successor(t: &[u32], m: Member, k: usize) -> Turn
-    requires { ⌜ Formed (now t) ⌝ }
+fn from_successor(t: &[u32], m: Member, k: usize) -> TakenStep
+    requires { ⌜ FormedWords (now t) ⌝ }
     requires { ⌜ (m .pending ≡ 1 → ⊥) × Stands (now t) k (getD (m .successors) 0 0) ⌝ }
     ensures { λ o. ⌜ Taken (now (t .entry)) m o ⌝ }
 {
@@ -35,27 +35,27 @@ fn from_successor(t: &[u32], m: Member, k: usize) -> Turn
     let c = s.predecessor;
     let a = m.adopt(h, l);
     if ident::between(m.id, c, h) {
-        return Turn {
+        return TakenStep {
             member: a.await_candidate(c),
             reply: Step::Look(c),
         };
     }
-    Turn {
+    TakenStep {
         member: a,
         reply: Step::Done(h),
     }
 }
 
 // Pending 1: the candidate is adopted if it is a member, and nothing is pending any more.
-fn from_predecessor(t: &[u32], m: Member) -> Turn
-    requires { ⌜ Formed (now t) ⌝ }
+fn from_predecessor(t: &[u32], m: Member) -> TakenStep
+    requires { ⌜ FormedWords (now t) ⌝ }
     requires { ⌜ m .pending ≡ 1 ⌝ }
     ensures { λ o. ⌜ Taken (now (t .entry)) m o ⌝ }
 {
     let c = m.candidate;
-    let Search::Here(k) = table::find(t, c) else {
+    let Located::Here(k) = table::locate(t, c) else {
         let h = m.successors[0];
-        return Turn {
+        return TakenStep {
             member: m.clear_pending(),
             reply: Step::Done(h),
         };
@@ -63,24 +63,24 @@ fn from_predecessor(t: &[u32], m: Member) -> Turn
     let s = table::member_at(t, k);
     let l = s.successors;
     let a = m.adopt(c, l);
-    Turn {
+    TakenStep {
         member: a.clear_pending(),
         reply: Step::Done(c),
     }
 }
 
 // The step of the member m.
-fn take_step(t: &[u32], m: Member) -> Turn
-    requires { ⌜ Formed (now t) ⌝ }
+fn take_step(t: &[u32], m: Member) -> TakenStep
+    requires { ⌜ FormedWords (now t) ⌝ }
     ensures { λ o. ⌜ Taken (now (t .entry)) m o ⌝ }
 {
     if m.pending == 1 {
         return from_predecessor(t, m);
     }
     let h = m.successors[0];
-    let Search::Here(k) = table::find(t, h) else {
-        let r = t[0] as usize;
-        return Turn {
+    let Located::Here(k) = table::locate(t, h) else {
+        let r = t[words::R] as usize;
+        return TakenStep {
             member: m.drop_head(r),
             reply: Step::Again,
         };
@@ -93,17 +93,19 @@ fn count_step(t: &mut [u32])
     requires { ⌜ headerSize ≤ length (now t) ⌝ }
     ensures { λ _. ⌜ now (t .exit) ≡ set (now (t .entry)) 2 (nextStep (getD (now (t .entry)) 2 0)) ⌝ }
 {
-    let s = t[2];
+    let s = t[words::STEPS];
     if s < 4294967295 {
-        t[2] = s + 1;
+        t[words::STEPS] = s + 1;
     }
 }
 
 // One step of the member at place k.
 pub fn stabilize_at(t: &mut [u32], k: usize) -> Step
-    requires { ⌜ Formed (now t) ⌝ }
+    requires { ⌜ FormedWords (now t) ⌝ }
     requires { ⌜ k < getD (now t) 1 0 ⌝ }
-    ensures { λ a. ⌜ (answerOf a ≡ accepted (stabilizeReply (membersIn (now (t .entry))) (named (membersIn (now (t .entry))) (getD (ids (membersIn (now (t .entry)))) k 0)))) × (now (t .exit) ≡ written (stabilized (getD (ids (membersIn (now (t .entry)))) k 0) (tableOf (now (t .entry)))) (now (t .entry))) ⌝ }
+    ensures { λ a. ⌜ (answerOf a ≡ accepted (stabilizeReply (membersIn (now (t .entry)))
+        (named (membersIn (now (t .entry))) (getD (ids (membersIn (now (t .entry)))) k 0))))
+        × (now (t .exit) ≡ written (stabilized (getD (ids (membersIn (now (t .entry)))) k 0) (tableOf (now (t .entry)))) (now (t .entry))) ⌝ }
 {
     let m = table::member_at(t, k);
     let o = take_step(t, m);

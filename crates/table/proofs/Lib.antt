@@ -1,5 +1,5 @@
 -- Laws that the proofs of this crate and of the crates above cite.
 pub mod Members
-pub mod Formed
+pub mod WellFormed
 pub mod Place
 pub mod Tail

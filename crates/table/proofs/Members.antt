@@ -10,7 +10,7 @@ use Rattle.model.specs.Table.{Member, headerSize, recordSize, size, tableOf, me
 use Rattle.model.specs.Ring.{nobody}
 use Rattle.laws.specs.Lists.{length-ids}
 use Rattle.laws.specs.Words.{members-length}
-use Rattle.table.specs.Formed.{Formed}
+use Rattle.table.specs.FormedWords.{FormedWords}
 
 -- Sizes
 
@@ -79,7 +79,7 @@ module _ (ws : List ℕ) where
     pub id-at : getD ws at 0 ≡ getD (ids (membersIn ws)) k 0
     id-at = rw (e, ← getD-drop headerSize ws (k * recordSize (getD ws 0 0)) 0) (id-word (getD ws 0 0) (getD ws 1 0) k (drop headerSize ws) h)
 
-    pub record-fits : Formed ws → at + recordSize (getD ws 0 0) ≤ length ws
+    pub record-fits : FormedWords ws → at + recordSize (getD ws 0 0) ≤ length ws
     record-fits f =
         let m : suc k * recordSize (getD ws 0 0) ≤ getD ws 1 0 * recordSize (getD ws 0 0) = mul-le-mul-right (recordSize (getD ws 0 0)) h in
         let s = suc-mul k (recordSize (getD ws 0 0)) in

@@ -14,11 +14,11 @@ use Rattle.model.specs.Table.{Member, headerSize, tableOf, membersIn, ids}
 use Rattle.model.specs.Ring.{live, named, nobody}
 use Rattle.model.specs.Steps.{inserted, replaced, isNamed, staying}
 use Rattle.model.specs.Calls.{written}
-use Rattle.table.specs.Formed.{Formed}
+use Rattle.table.specs.FormedWords.{FormedWords}
 use Rattle.table.specs.Rank.{rank}
-use Rattle.table.specs.Search.{Stands, searched}
-use Rattle.table.specs.declared.Search.{Search}
-use Rattle.table.specs.declared.Search.the-variants.{Here, Missing}
+use Rattle.table.specs.Located.{Stands, located}
+use Rattle.table.specs.declared.Located.{Located}
+use Rattle.table.specs.declared.Located.the-variants.{Here, Missing}
 use Rattle.laws.specs.Words.{members-length, written-same}
 use Rattle.laws.specs.Lists.{and-true as both, in-live}
 use Rattle.laws.specs.Removed.{without-none}
@@ -114,7 +114,9 @@ pub rank-missing : (l : List ℕ) (x : ℕ) → (rank l x < length l → getD l 
 rank-missing [] x h = refl
 rank-missing (y ∷ l) x h = go (ltb y x) refl h (rank-missing l x)
   where
-    go : (b : Bool) → ltb y x ≡ b → ((if b then suc (rank l x) else 0) < suc (length l) → getD (y ∷ l) (if b then suc (rank l x) else 0) 0 ≡ x → ⊥) → ((rank l x < length l → getD l (rank l x) 0 ≡ x → ⊥) → rank l x ≡ rank l (suc x)) → (if b then suc (rank l x) else 0) ≡ (if ltb y (suc x) then suc (rank l (suc x)) else 0)
+    go : (b : Bool) → ltb y x ≡ b → ((if b then suc (rank l x) else 0) < suc (length l) → getD (y ∷ l) (if b then suc (rank l x) else 0) 0 ≡ x → ⊥)
+        → ((rank l x < length l → getD l (rank l x) 0 ≡ x → ⊥) → rank l x ≡ rank l (suc x))
+        → (if b then suc (rank l x) else 0) ≡ (if ltb y (suc x) then suc (rank l (suc x)) else 0)
     go true t n i =
         let b = ltb-true y x t in
         rw (lt-ltb y (suc x) (omega arith)) (ap suc (i (λ u v. n (omega arith) v)))
@@ -128,7 +130,8 @@ pub contains-rank : (l : List ℕ) (x : ℕ) → rising l ≡ true → contains 
 contains-rank [] x e = refl
 contains-rank (y ∷ l) x e = go (ltb y x) refl (contains-rank l x (rising-tail y l e))
   where
-    go : (b : Bool) → ltb y x ≡ b → contains l x ≡ (ltb (rank l x) (length l) && eqb (getD l (rank l x) 0) x) → (eqb y x || contains l x) ≡ (ltb (if b then suc (rank l x) else 0) (suc (length l)) && eqb (getD (y ∷ l) (if b then suc (rank l x) else 0) 0) x)
+    go : (b : Bool) → ltb y x ≡ b → contains l x ≡ (ltb (rank l x) (length l) && eqb (getD l (rank l x) 0) x)
+        → (eqb y x || contains l x) ≡ (ltb (if b then suc (rank l x) else 0) (suc (length l)) && eqb (getD (y ∷ l) (if b then suc (rank l x) else 0) 0) x)
     go true t i = rw (below-eqb y x (ltb-true y x t), leb·suc-suc (suc (rank l x)) (length l)) i
     go false t i = rw (none-below x y l e (ltb-false y x t), lt-ltb 0 (suc (length l)) (omega arith), or-false)
 
@@ -149,7 +152,8 @@ pub live-at : (ms : List Member) (x : ℕ) → rising (ids ms) ≡ true → live
 live-at [] x e l = absurd (false≢true l)
 live-at (m ∷ ms) x e l = go (ltb (m .id) x) refl (eqb (m .id) x) refl l (λ q. live-at ms x (rising-tail (m .id) (ids ms) e) q)
   where
-    go : (b : Bool) → ltb (m .id) x ≡ b → (c : Bool) → eqb (m .id) x ≡ c → (c || live ms x) ≡ true → (live ms x ≡ true → At x ms (rank (ids ms) x)) → At x (m ∷ ms) (if b then suc (rank (ids ms) x) else 0)
+    go : (b : Bool) → ltb (m .id) x ≡ b → (c : Bool) → eqb (m .id) x ≡ c → (c || live ms x) ≡ true → (live ms x ≡ true → At x ms (rank (ids ms) x))
+        → At x (m ∷ ms) (if b then suc (rank (ids ms) x) else 0)
     go true t true u l i = absurd (omega (arith, ltb-true (m .id) x t, eqb-true (m .id) x u))
     go true t false u l i = at-later (ltb-true (m .id) x t) (i l)
     go false t true u l i = at-first (eqb-true (m .id) x u)
@@ -159,7 +163,8 @@ pub gap-at : (ms : List Member) (x : ℕ) → live ms x ≡ false → Gap x ms (
 gap-at [] x l = gap-last
 gap-at (m ∷ ms) x l = go (ltb (m .id) x) refl (eqb (m .id) x) refl l (λ q. gap-at ms x q)
   where
-    go : (b : Bool) → ltb (m .id) x ≡ b → (c : Bool) → eqb (m .id) x ≡ c → (c || live ms x) ≡ false → (live ms x ≡ false → Gap x ms (rank (ids ms) x)) → Gap x (m ∷ ms) (if b then suc (rank (ids ms) x) else 0)
+    go : (b : Bool) → ltb (m .id) x ≡ b → (c : Bool) → eqb (m .id) x ≡ c → (c || live ms x) ≡ false → (live ms x ≡ false → Gap x ms (rank (ids ms) x))
+        → Gap x (m ∷ ms) (if b then suc (rank (ids ms) x) else 0)
     go b t true u l i = absurd (false≢true (sym l))
     go true t false u l i = gap-later (ltb-true (m .id) x t) (i l)
     go false t false u l i =
@@ -213,7 +218,7 @@ pub within-count : (ws : List ℕ) {x k : ℕ} → At x (membersIn ws) k → k <
 within-count ws a = omega (arith, at-within a, members-length (getD ws 0 0) (getD ws 1 0) (drop headerSize ws))
 
 -- the table's own words written over it
-pub same-words : (ws : List ℕ) → Formed ws → ws ≡ written (tableOf ws) ws
+pub same-words : (ws : List ℕ) → FormedWords ws → ws ≡ written (tableOf ws) ws
 same-words ws f = sym (written-same ws (f .header) (rw (size-words ws) (f .fits)))
 
 -- at each place a member stands
@@ -221,7 +226,7 @@ pub own-place : (ws : List ℕ) (k : ℕ) → k < getD ws 1 0 → Stands ws k (g
 own-place ws k h = record { within = h; has-id = refl }
 
 -- x stands at place k
-module _ {ws : List ℕ} {k x : ℕ} (f : Formed ws) (s : Stands ws k x) where
+module _ {ws : List ℕ} {k x : ℕ} (f : FormedWords ws) (s : Stands ws k x) where
   pub stands-at : At x (membersIn ws) k
   stands-at = rw (← s .has-id) (at-place (membersIn ws) k (f .rises) (omega (arith, ids-count ws, s .within)))
 
@@ -239,36 +244,36 @@ module _ (ws : List ℕ) (k x : ℕ) where
   pub stands-there : stands ≡ true → (k < getD ws 1 0) × (getD (ids (membersIn ws)) k 0 ≡ x)
   stands-there e = let w = both (ltb k (getD ws 1 0)) (eqb (getD (ids (membersIn ws)) k 0) x) e in (ltb-true k (getD ws 1 0) (w .0), eqb-true (getD (ids (membersIn ws)) k 0) x (w .1))
 
-  pub stands-rank : Formed ws → stands ≡ true → (k ≡ rank (ids (membersIn ws)) x) × (k ≤ getD ws 1 0)
+  pub stands-rank : FormedWords ws → stands ≡ true → (k ≡ rank (ids (membersIn ws)) x) × (k ≤ getD ws 1 0)
   stands-rank f e = let w = stands-there e in (rw (← (w .1)) (rank-here (ids (membersIn ws)) k (f .rises) (omega (arith, ids-count ws))), omega arith)
 
   -- a member stands at its rank
-  pub stands-member : Formed ws → k ≡ rank (ids (membersIn ws)) x → stands ≡ live (membersIn ws) x
+  pub stands-member : FormedWords ws → k ≡ rank (ids (membersIn ws)) x → stands ≡ live (membersIn ws) x
   stands-member f e = sym (contains-rank (ids (membersIn ws)) x (f .rises) ∙ rw (ids-count ws, ← e))
 
 -- a search for x
-abbrev placeOf : Search → ℕ
+abbrev placeOf : Located → ℕ
 placeOf (Here k) = k
 placeOf (Missing k) = k
 
-abbrev isHere : Search → Bool
+abbrev isHere : Located → Bool
 isHere (Here k) = true
 isHere (Missing k) = false
 
-said : (b : Bool) (j : ℕ) (s : Search) → s ≡ (if b then Here j else Missing j) → (isHere s ≡ b) × (placeOf s ≡ j)
+said : (b : Bool) (j : ℕ) (s : Located) → s ≡ (if b then Here j else Missing j) → (isHere s ≡ b) × (placeOf s ≡ j)
 said true j s e = rw e (refl, refl)
 said false j s e = rw e (refl, refl)
 
 module _ (ws : List ℕ) (x k : ℕ) where
   -- x is no member and k its rank, or x is a member and k its rank, where it stands
-  pub missing : Missing k ≡ searched ws x → (live (membersIn ws) x ≡ false) × (k ≡ rank (ids (membersIn ws)) x)
+  pub missing : Missing k ≡ located ws x → (live (membersIn ws) x ≡ false) × (k ≡ rank (ids (membersIn ws)) x)
   missing e = let w = said (live (membersIn ws) x) (rank (ids (membersIn ws)) x) (Missing k) e in (sym (w .0), w .1)
 
-  pub present : Here k ≡ searched ws x → (live (membersIn ws) x ≡ true) × (k ≡ rank (ids (membersIn ws)) x)
+  pub present : Here k ≡ located ws x → (live (membersIn ws) x ≡ true) × (k ≡ rank (ids (membersIn ws)) x)
   present e = let w = said (live (membersIn ws) x) (rank (ids (membersIn ws)) x) (Here k) e in (sym (w .0), w .1)
 
-  pub rank-stands : Formed ws → live (membersIn ws) x ≡ true → k ≡ rank (ids (membersIn ws)) x → Stands ws k x
+  pub rank-stands : FormedWords ws → live (membersIn ws) x ≡ true → k ≡ rank (ids (membersIn ws)) x → Stands ws k x
   rank-stands f l e = let a : At x (membersIn ws) k = rw e (live-at (membersIn ws) x (f .rises) l) in record { within = within-count ws a; has-id = at-id a }
 
-  pub here : Formed ws → Here k ≡ searched ws x → Stands ws k x
+  pub here : FormedWords ws → Here k ≡ located ws x → Stands ws k x
   here f e = let w = present e in rank-stands f (w .0) (w .1)

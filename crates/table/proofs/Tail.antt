@@ -1,4 +1,4 @@
--- What follows the first statement of a body: for the walks by hand of the crates above, the part of a loop's turn after its test, which has no name in the generated MIR.
+-- What follows the first statement of a body: for the walks by hand of the crates above, the part of a loop's iteration after its test, which has no name in the generated MIR.
 use package.mir.Syntax.{Body, skip, seq, assign, block, loop, cond, switch, exit, return, call}
 
 abbrev pub tail : Body → Body

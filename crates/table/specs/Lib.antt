@@ -1,5 +1,5 @@
 -- What the contracts of this crate cite besides the model.
-pub mod Formed
+pub mod FormedWords
 pub mod Rank
-pub mod Search
+pub mod Located
 pub mod Tests

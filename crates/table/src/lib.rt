@@ -1,4 +1,4 @@
-// Members of a table in a slice: the test for well-formed tables, and finding a member.
+// Members of a table in a slice: the test for well-formed tables, and where a member stands.
 // For the crates above; behind `well_formed`, each function asks for a well-formed table.
 ghost use mathlib.Core.Path.{_≡_};
 ghost use mathlib.Core.Bool.{true, false, _&&_};
@@ -8,14 +8,14 @@ ghost use lib.ListN.{length, getD};
 ghost use Rattle.model.specs.Table.{recordSize, recordOf, membersOf, membersIn, ids, wellFormed};
 ghost use Rattle.model.specs.Ring.{nobody};
 ghost use Rattle.member.specs.View.{view};
-ghost use Rattle.table.specs.Formed.{Formed};
+ghost use Rattle.table.specs.FormedWords.{FormedWords};
 ghost use Rattle.table.specs.Rank.{rank as rankOf};
-ghost use Rattle.table.specs.Search.{searched};
+ghost use Rattle.table.specs.Located.{located};
 ghost use Rattle.table.specs.Tests.{rightPending, rightFrom};
 use member::Member;
 
-// What a search for an identifier finds.
-pub enum Search {
+// Where an identifier stands among the members, or would stand.
+pub enum Located {
     // the place where it stands
     Here(usize),
     // the place where it would stand
@@ -27,12 +27,12 @@ fn record_ok(s: &[u32], lo: usize) -> bool
     requires { ⌜ 4 ≤ length (now s) ⌝ }
     ensures { λ b. ⌜ b ≡ (leb lo (getD (now (s .entry)) 0 0) && rightPending (getD (now (s .entry)) 2 0) (getD (now (s .entry)) 3 0)) ⌝ }
 {
-    let id = s[0] as usize;
+    let id = s[words::ID] as usize;
     if id < lo {
         return false;
     }
-    let p = s[2];
-    let both = p as usize + s[3] as usize;
+    let p = s[words::PENDING];
+    let both = p as usize + s[words::CANDIDATE] as usize;
     if both == 0 {
         return true;
     }
@@ -44,13 +44,13 @@ fn records_ok(s: &[u32], r: usize, n: usize) -> bool
     requires { ⌜ (r ≤ 8) × (n * recordSize r ≤ length (now s)) ⌝ }
     ensures { λ b. ⌜ b ≡ rightFrom 0 (membersOf r n (now (s .entry))) ⌝ }
 {
-    let w = words::width(r);
+    let w = words::record_size(r);
     let mut p = s;
     let mut left = n;
     let mut lo: usize = 0;
     while 0 < left {
         if record_ok(&p[..w], lo) {
-            lo = p[0] as usize + 1;
+            lo = p[words::ID] as usize + 1;
             p = &p[w..];
             left -= 1;
         } else {
@@ -67,8 +67,8 @@ pub fn well_formed(t: &[u32]) -> bool
     if t.len() < words::HEADER {
         return false;
     }
-    let r = t[0] as usize;
-    let n = t[1] as usize;
+    let r = t[words::R] as usize;
+    let n = t[words::COUNT] as usize;
     if r < 1 {
         return false;
     }
@@ -86,11 +86,11 @@ pub fn well_formed(t: &[u32]) -> bool
 
 // How many members stand below the identifier x, by halves.
 pub fn rank(t: &[u32], x: u32) -> usize
-    requires { ⌜ Formed (now t) ⌝ }
+    requires { ⌜ FormedWords (now t) ⌝ }
     ensures { λ k. ⌜ (k ≡ rankOf (ids (membersIn (now (t .entry)))) x) × (k ≤ getD (now (t .entry)) 1 0) ⌝ }
 {
-    let r = t[0] as usize;
-    let n = t[1] as usize;
+    let r = t[words::R] as usize;
+    let n = t[words::COUNT] as usize;
     let mut lo: usize = 0;
     let mut hi = n;
     while lo < hi {
@@ -107,11 +107,11 @@ pub fn rank(t: &[u32], x: u32) -> usize
 
 // Does the member x stand at place k?
 pub fn stands_at(t: &[u32], k: usize, x: u32) -> bool
-    requires { ⌜ Formed (now t) ⌝ }
+    requires { ⌜ FormedWords (now t) ⌝ }
     ensures { λ b. ⌜ b ≡ (ltb k (getD (now (t .entry)) 1 0) && eqb (getD (ids (membersIn (now (t .entry)))) k 0) x) ⌝ }
 {
-    let r = t[0] as usize;
-    let n = t[1] as usize;
+    let r = t[words::R] as usize;
+    let n = t[words::COUNT] as usize;
     if k < n {
         let at = words::offset(r, k);
         return t[at] == x;
@@ -121,7 +121,7 @@ pub fn stands_at(t: &[u32], k: usize, x: u32) -> bool
 
 // How many members stand below x: as many as guessed, if x stands there; else by halves.
 pub fn rank_from(t: &[u32], guess: usize, x: u32) -> usize
-    requires { ⌜ Formed (now t) ⌝ }
+    requires { ⌜ FormedWords (now t) ⌝ }
     ensures { λ k. ⌜ (k ≡ rankOf (ids (membersIn (now (t .entry)))) x) × (k ≤ getD (now (t .entry)) 1 0) ⌝ }
 {
     if stands_at(t, guess, x) {
@@ -131,35 +131,35 @@ pub fn rank_from(t: &[u32], guess: usize, x: u32) -> usize
 }
 
 // Where does x stand among the members, or where is it missing?
-pub fn find(t: &[u32], x: u32) -> Search
-    requires { ⌜ Formed (now t) ⌝ }
-    ensures { λ a. ⌜ a ≡ searched (now (t .entry)) x ⌝ }
+pub fn locate(t: &[u32], x: u32) -> Located
+    requires { ⌜ FormedWords (now t) ⌝ }
+    ensures { λ a. ⌜ a ≡ located (now (t .entry)) x ⌝ }
 {
     let k = rank(t, x);
     if stands_at(t, k, x) {
-        return Search::Here(k);
+        return Located::Here(k);
     }
-    Search::Missing(k)
+    Located::Missing(k)
 }
 
 // The word i of the record at place k, before its list: identifier, predecessor, pending or candidate.
 pub fn word_at(t: &[u32], k: usize, i: usize) -> u32
-    requires { ⌜ Formed (now t) ⌝ }
+    requires { ⌜ FormedWords (now t) ⌝ }
     requires { ⌜ (k < getD (now t) 1 0) × (i < 4) ⌝ }
     ensures { λ x. ⌜ x ≡ getD (recordOf (getD (membersIn (now (t .entry))) k nobody)) i 0 ⌝ }
 {
-    let r = t[0] as usize;
+    let r = t[words::R] as usize;
     let at = words::offset(r, k);
     t[at + i]
 }
 
 // The member at place k.
 pub fn member_at(t: &[u32], k: usize) -> Member
-    requires { ⌜ Formed (now t) ⌝ }
+    requires { ⌜ FormedWords (now t) ⌝ }
     requires { ⌜ k < getD (now t) 1 0 ⌝ }
     ensures { λ m. ⌜ view (getD (now (t .entry)) 0 0) m ≡ getD (membersIn (now (t .entry))) k nobody ⌝ }
 {
-    let r = t[0] as usize;
+    let r = t[words::R] as usize;
     let at = words::offset(r, k);
     words::read_member(&t[at..], r)
 }

@@ -3,8 +3,8 @@ use mathlib.Core.Path.{_≡_}
 use mathlib.Core.List.{[], _∷_, _++_}
 use lib.ListN.{take}
 use borrow.Author.Tests.{ne-eqb}
-use Rattle.answer.specs.declared.Answer.{Answer}
-use Rattle.answer.specs.Packed.{unpacked}
+use Rattle.answers.specs.declared.Answer.{Answer}
+use Rattle.answers.specs.Packed.{unpacked}
 use Rattle.script.specs.Text.{numbersText, fieldsText, answerText}
 use Rattle.script.specs.declared.Word.{Word}
 

@@ -2,11 +2,11 @@
 ghost use mathlib.Core.List.{[], _∷_, _++_};
 ghost use Prim.Native.Nat.{_+_, _≤_};
 ghost use lib.ListN.{length};
-ghost use Rattle.answer.specs.Packed.{unpacked};
+ghost use Rattle.answers.specs.Packed.{unpacked};
 ghost use Rattle.script.specs.Text.{numbersText, fieldsText, answerText, answered as answeredOf, unread as unreadOf};
-ghost use Rattle.put.specs.Written.{Wrote};
+ghost use Rattle.put.specs.Wrote.{Wrote};
 ghost use Rattle.text.specs.Words.{wordText};
-use answer::Answer;
+use answers::Answer;
 use script::Word;
 
 // A word, after a space.

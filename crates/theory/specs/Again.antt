@@ -24,16 +24,16 @@ use Rattle.theory.specs.Left.{stabilize-table}
 use Rattle.theory.specs.Runs.{Good, stabilize-good}
 
 -- the next step of n replies "done"; or "look", and the one after it "done"
-pub data Settles (n : ℕ) (ws : List ℕ) : Type 0 where
-  done : (h : ℕ) → stabilizeAnswer ws n ≡ accepted (2 ∷ h ∷ []) → Settles n ws
-  look : (c h : ℕ) → stabilizeAnswer ws n ≡ accepted (1 ∷ c ∷ []) → stabilizeAnswer (stabilizeWords ws n) n ≡ accepted (2 ∷ h ∷ []) → Settles n ws
+pub data ComesToDone (n : ℕ) (ws : List ℕ) : Type 0 where
+  done : (h : ℕ) → stabilizeAnswer ws n ≡ accepted (2 ∷ h ∷ []) → ComesToDone n ws
+  look : (c h : ℕ) → stabilizeAnswer ws n ≡ accepted (1 ∷ c ∷ []) → stabilizeAnswer (stabilizeWords ws n) n ≡ accepted (2 ∷ h ∷ []) → ComesToDone n ws
 
 -- the steps of n on a slice, one after the other, reply "again" at most so many times, and then as above
-pub record Turn (n most : ℕ) (ws : List ℕ) : Type 0 where
+pub record FewAgains (n most : ℕ) (ws : List ℕ) : Type 0 where
   pub agains : ℕ
   pub few : agains ≤ most
   pub each : (k : ℕ) → k < agains → stabilizeAnswer (run (replicate k (Stabilize n)) ws) n ≡ accepted (0 ∷ [])
-  pub last : Settles n (run (replicate agains (Stabilize n)) ws)
+  pub last : ComesToDone n (run (replicate agains (Stabilize n)) ws)
 
 -- after at most so many steps of n its first entry is a member
 pub record Clears (n most : ℕ) (ws : List ℕ) : Type 0 where
@@ -88,50 +88,53 @@ module _ (n : ℕ) where
         let v = stabilize (spaceOf (tableOf ws)) (membersIn ws) (named (membersIn ws) n) in
         let i = live-in (membersIn ws) n (g .member) in
         let e : v .id ≡ n = same-id (membersIn ws) (named (membersIn ws) n) (spaceOf (tableOf ws)) ∙ found (membersIn ws) i .1 in
-        ap (λ (ms : List Member). named ms n) members ∙ subst (λ (x : ℕ). named (replaced v (membersIn ws)) x ≡ v) e (replaced-named v (membersIn ws) (subst (λ (x : ℕ). In x (ids (membersIn ws))) (sym e) i))
+        ap (λ (ms : List Member). named ms n) members ∙ subst (λ (x : ℕ). named (replaced v (membersIn ws)) x ≡ v) e
+        (replaced-named v (membersIn ws) (subst (λ (x : ℕ). In x (ids (membersIn ws))) (sym e) i))
 
     next : With (stabilizeWords ws n)
     next = record { good = stabilize-good ws (g .good) n; member = subst (λ (xs : List ℕ). contains xs n ≡ true) (sym same-ids) (g .member) }
 
-    -- Steps that end the turn
+    -- Steps that end the series of "again"
 
-    finish : isPending (named (membersIn ws) n) ≡ true → Settles n ws
+    finish : isPending (named (membersIn ws) n) ≡ true → ComesToDone n ws
     finish p = done _ (replies (done-pending (membersIn ws) (named (membersIn ws) n) p))
 
-    awaits : isPending (named (membersIn ws) n) ≡ false → live (membersIn ws) (successor (named (membersIn ws) n)) ≡ true → isBetter (membersIn ws) (named (membersIn ws) n) ≡ true → isPending (named (membersIn (stabilizeWords ws n)) n) ≡ true
+    awaits : isPending (named (membersIn ws) n) ≡ false → live (membersIn ws) (successor (named (membersIn ws) n)) ≡ true
+        → isBetter (membersIn ws) (named (membersIn ws) n) ≡ true → isPending (named (membersIn (stabilizeWords ws n)) n) ≡ true
     awaits p d b =
         let ms = membersIn ws in
         let m = named ms n in
         ap isPending (stepped ∙ sym (step-live ms m (spaceOf (tableOf ws)) p d) ∙ sym (offered-better ms m b))
 
-  settles : (ws : List ℕ) (g : With ws) → isPending (named (membersIn ws) n) ≡ false → live (membersIn ws) (successor (named (membersIn ws) n)) ≡ true → Settles n ws
-  settles ws g p d = go (isBetter (membersIn ws) (named (membersIn ws) n)) refl
+  comes-to-done : (ws : List ℕ) (g : With ws) → isPending (named (membersIn ws) n) ≡ false → live (membersIn ws) (successor (named (membersIn ws) n)) ≡ true → ComesToDone n ws
+  comes-to-done ws g p d = go (isBetter (membersIn ws) (named (membersIn ws) n)) refl
     where
-      go : (b : Bool) → isBetter (membersIn ws) (named (membersIn ws) n) ≡ b → Settles n ws
-      go true b = look _ _ (replies ws g (reply-look (membersIn ws) (named (membersIn ws) n) p d b)) (replies (stabilizeWords ws n) (next ws g) (done-pending _ (named (membersIn (stabilizeWords ws n)) n) (awaits ws g p d b)))
+      go : (b : Bool) → isBetter (membersIn ws) (named (membersIn ws) n) ≡ b → ComesToDone n ws
+      go true b = look _ _ (replies ws g (reply-look (membersIn ws) (named (membersIn ws) n) p d b))
+          (replies (stabilizeWords ws n) (next ws g) (done-pending _ (named (membersIn (stabilizeWords ws n)) n) (awaits ws g p d b)))
       go false b = done _ (replies ws g (reply-done (membersIn ws) (named (membersIn ws) n) p d b))
 
   -- Turns
 
-  turn-here : (ws : List ℕ) (most : ℕ) → Settles n ws → Turn n most ws
+  agains-here : (ws : List ℕ) (most : ℕ) → ComesToDone n ws → FewAgains n most ws
   unfolding run
-  turn-here ws most e = record { agains = 0; few = omega arith; each = λ k h. absurd (omega arith); last = e }
+  agains-here ws most e = record { agains = 0; few = omega arith; each = λ k h. absurd (omega arith); last = e }
 
-  turn-next : (ws : List ℕ) (most : ℕ) → stabilizeAnswer ws n ≡ accepted (0 ∷ []) → Turn n most (stabilizeWords ws n) → Turn n (suc most) ws
+  agains-next : (ws : List ℕ) (most : ℕ) → stabilizeAnswer ws n ≡ accepted (0 ∷ []) → FewAgains n most (stabilizeWords ws n) → FewAgains n (suc most) ws
   unfolding run callWords
-  turn-next ws most first t = record { agains = suc (t .agains); few = omega (arith, t .few); each = each; last = t .last }
+  agains-next ws most first t = record { agains = suc (t .agains); few = omega (arith, t .few); each = each; last = t .last }
     where
       each : (k : ℕ) → k < suc (t .agains) → stabilizeAnswer (run (replicate k (Stabilize n)) ws) n ≡ accepted (0 ∷ [])
       each zero h = first
       each (suc k) h = t .each k (omega arith)
 
   -- by the cases of the first step
-  turn-by : (i : ℕ) (ws : List ℕ) → With ws → (isPending (named (membersIn ws) n) ≡ false → live (membersIn ws) (successor (named (membersIn ws) n)) ≡ false → Turn n i ws) → Turn n i ws
-  turn-by i ws g dead = go (isPending (named (membersIn ws) n)) refl (live (membersIn ws) (successor (named (membersIn ws) n))) refl
+  agains-by : (i : ℕ) (ws : List ℕ) → With ws → (isPending (named (membersIn ws) n) ≡ false → live (membersIn ws) (successor (named (membersIn ws) n)) ≡ false → FewAgains n i ws) → FewAgains n i ws
+  agains-by i ws g dead = go (isPending (named (membersIn ws) n)) refl (live (membersIn ws) (successor (named (membersIn ws) n))) refl
     where
-      go : (p : Bool) → isPending (named (membersIn ws) n) ≡ p → (d : Bool) → live (membersIn ws) (successor (named (membersIn ws) n)) ≡ d → Turn n i ws
-      go true p d q = turn-here ws i (finish ws g p)
-      go false p true q = turn-here ws i (settles ws g p q)
+      go : (p : Bool) → isPending (named (membersIn ws) n) ≡ p → (d : Bool) → live (membersIn ws) (successor (named (membersIn ws) n)) ≡ d → FewAgains n i ws
+      go true p d q = agains-here ws i (finish ws g p)
+      go false p true q = agains-here ws i (comes-to-done ws g p q)
       go false p false q = dead p q
 
   -- "again" leaves a live entry one place further in front
@@ -143,9 +146,11 @@ module _ (n : ℕ) where
       (in-front (ids (membersIn ws)) (named (membersIn ws) n .successors) _ i a))
 
   -- where a live entry stands at place i of the list
-  turn : (i : ℕ) (ws : List ℕ) → With ws → LiveAt (ids (membersIn ws)) (named (membersIn ws) n .successors) i → Turn n i ws
-  turn zero ws g a = turn-by 0 ws g (λ p q. absurd (true≢false (sym (a .lives) ∙ q)))
-  turn (suc i) ws g a = turn-by (suc i) ws g (λ p q. turn-next ws i (replies ws g (again (membersIn ws) (named (membersIn ws) n) p q)) (turn i (stabilizeWords ws n) (next ws g) (nearer ws g i p q a)))
+  few-agains : (i : ℕ) (ws : List ℕ) → With ws → LiveAt (ids (membersIn ws)) (named (membersIn ws) n .successors) i → FewAgains n i ws
+  few-agains zero ws g a = agains-by 0 ws g (λ p q. absurd (true≢false (sym (a .lives) ∙ q)))
+  few-agains (suc i) ws g a = agains-by (suc i) ws g
+      (λ p q. agains-next ws i (replies ws g (again (membersIn ws) (named (membersIn ws) n) p q))
+      (few-agains i (stabilizeWords ws n) (next ws g) (nearer ws g i p q a)))
 
   -- A first entry that is a member
 
@@ -160,9 +165,12 @@ module _ (n : ℕ) where
   -- nothing pending, and a live entry at place i: i steps
   clears : (i : ℕ) (ws : List ℕ) → With ws → isPending (named (membersIn ws) n) ≡ false → LiveAt (ids (membersIn ws)) (named (membersIn ws) n .successors) i → Clears n i ws
   clears zero ws g p a = clear-here ws 0 (a .lives)
-  clears (suc i) ws g p a = go (live (membersIn ws) (successor (named (membersIn ws) n))) refl (λ q. clears i (stabilizeWords ws n) (next ws g) (ap isPending (stepped ws g ∙ sym (step-dead (membersIn ws) (named (membersIn ws) n) (spaceOf (tableOf ws)) p q)) ∙ p) (nearer ws g i p q a))
+  clears (suc i) ws g p a = go (live (membersIn ws) (successor (named (membersIn ws) n))) refl
+      (λ q. clears i (stabilizeWords ws n) (next ws g) (ap isPending
+      (stepped ws g ∙ sym (step-dead (membersIn ws) (named (membersIn ws) n) (spaceOf (tableOf ws)) p q)) ∙ p) (nearer ws g i p q a))
     where
-      go : (d : Bool) → live (membersIn ws) (successor (named (membersIn ws) n)) ≡ d → (live (membersIn ws) (successor (named (membersIn ws) n)) ≡ false → Clears n i (stabilizeWords ws n)) → Clears n (suc i) ws
+      go : (d : Bool) → live (membersIn ws) (successor (named (membersIn ws) n)) ≡ d
+          → (live (membersIn ws) (successor (named (membersIn ws) n)) ≡ false → Clears n i (stabilizeWords ws n)) → Clears n (suc i) ws
       go true q ih = clear-here ws (suc i) q
       go false q ih = clear-next ws i (ih q)
 
@@ -183,7 +191,9 @@ module _ (n : ℕ) where
       go true e = clear-here (stabilizeWords ws n) i (rw (now ∙ sym (candidate-taken ms m e)) (subst (λ (xs : List ℕ). contains xs (m .candidate) ≡ true) (sym (same-ids ws g)) e))
       go false e =
           let q = now ∙ sym (candidate-cleared ms m e) in
-          clears i (stabilizeWords ws n) (next ws g) (ap isPending q) (subst (λ (xs : List ℕ). LiveAt xs (named (membersIn (stabilizeWords ws n)) n .successors) i) (sym (same-ids ws g)) (subst (λ (v : Member). LiveAt (ids ms) (v .successors) i) (sym q) a))
+          clears i (stabilizeWords ws n) (next ws g) (ap isPending q)
+          (subst (λ (xs : List ℕ). LiveAt xs (named (membersIn (stabilizeWords ws n)) n .successors) i) (sym (same-ids ws g))
+          (subst (λ (v : Member). LiveAt (ids ms) (v .successors) i) (sym q) a))
 
   clears-by : (i : ℕ) (ws : List ℕ) → With ws → LiveAt (ids (membersIn ws)) (named (membersIn ws) n .successors) i → Clears n (suc i) ws
   clears-by i ws g a = go (isPending (named (membersIn ws) n)) refl
@@ -208,10 +218,10 @@ module _ (ws : List ℕ) (n : ℕ) (h : wellFormed ws ≡ true) (s : sound (tabl
       record { place = a .0; below = omega (arith, a .1 .inside, t); there = a .1; with-it = record { good = record { well-formed = h; is-sound = s }; member = l } }
 
 -- of every member of a sound table: "again" at most r - 1 times, then "look" at most once, then "done"
-pub again-ends : (ws : List ℕ) (n : ℕ) → wellFormed ws ≡ true → sound (tableOf ws) ≡ true → live (membersIn ws) n ≡ true → Turn n (tableOf ws .r - 1) ws
+pub again-ends : (ws : List ℕ) (n : ℕ) → wellFormed ws ≡ true → sound (tableOf ws) ≡ true → live (membersIn ws) n ≡ true → FewAgains n (tableOf ws .r - 1) ws
 again-ends ws n h s l =
     let a = ready ws n h s l in
-    let e = turn n (a .place) ws (a .with-it) (a .there) in
+    let e = few-agains n (a .place) ws (a .with-it) (a .there) in
     record { agains = e .agains; few = omega (arith, e .few, a .below); each = e .each; last = e .last }
 
 -- and its first entry is a member after at most r steps: r - 1 that drop one, and one that was pending

@@ -1,4 +1,4 @@
--- Settle's bound, stated (document 02, Req 05): how many rounds make every sound table ideal. With model this is all that its reader must believe; Settled proves it.
+-- Settle's bound, stated (document 02, Req 05): how many rounds make every sound table ideal. With model this is all that its reader must believe; BoundProof proves it.
 use Prim.Native.Nat.{ℕ, zero, suc, _+_, _-_, _*_, _≤_}
 use mathlib.Core.Path.{_≡_}
 use mathlib.Core.Bool.{Bool, true, false}

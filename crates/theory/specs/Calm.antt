@@ -16,7 +16,7 @@ use Rattle.model.specs.Steps.{withPredecessor, adopt, awaitCandidate, dropHead,
 use Rattle.model.specs.Settle.{delivered, nextReply, isDone, lastStep, finished, untilDone, afterTurn}
 use Rattle.laws.specs.Order.{equal?, Inside, Outside, below, beyond, rest, mid, high, low, inside?, inside-outside, false-outside, inner-from}
 use Rattle.laws.specs.Lists.{In, found, live-in, in-live}
-use Rattle.laws.specs.Stabilize.{done-pending, reply-look, reply-done, offered-better, offered-no-better, step-live, Way, takes, clears, drops, looks, settles, way-of}
+use Rattle.laws.specs.Stabilize.{done-pending, reply-look, reply-done, offered-better, offered-no-better, step-live, StepCase, takes, clears, drops, looks, settles, step-case}
 use Rattle.theory.specs.Bound.{UntilDone, last, more}
 use Rattle.theory.specs.Static.{lists-in-order}
 use Rattle.theory.specs.Keep.{Kept}
@@ -64,15 +64,15 @@ not-own T k n i e =
     let o = lists-in-order T (k .formed) (k .is-sound) n i in
     o .different 0 1 (omega arith) (omega (arith, o .many, k .formed .r-low)) e
 
--- The next step of n, by the ways of a step: what it replies, and what it leaves of n's record
+-- The next step of n, by the cases of a step: what it replies, and what it leaves of n's record
 
 module _ (n : ℕ) (T : Table) where
   abbrev m : Member
   m = named (T .members) n
 
-  -- the way that leaves l for the reply and u for the record
-  abbrev NextWay : List ℕ → Member → Type 0
-  NextWay l u = Way (spaceOf T) (T .members) m l u
+  -- the case that leaves l for the reply and u for the record
+  abbrev NextCase : List ℕ → Member → Type 0
+  NextCase l u = StepCase (spaceOf T) (T .members) m l u
 
   by-reply : (l : List ℕ) → l ≡ nextReply n T → isDone n T ≡ eqb (getD l 0 0) 2
   by-reply l e = ap (λ (k : List ℕ). eqb (getD k 0 0) 2) (sym e)
@@ -87,13 +87,15 @@ module _ (n : ℕ) (T : Table) where
   settles-done p l b = by-reply _ (reply-done (T .members) m p l b)
 
   module _ (k : Kept T) (i : In n (ids (T .members))) where
-    next-way : NextWay (nextReply n T) (named (stabilized n T .members) n)
-    next-way = subst (NextWay (nextReply n T)) (sym (stepped-named T k n i)) (way-of (spaceOf T) (T .members) m)
+    next-case : NextCase (nextReply n T) (named (stabilized n T .members) n)
+    next-case = subst (NextCase (nextReply n T)) (sym (stepped-named T k n i)) (step-case (spaceOf T) (T .members) m)
 
-    pub left-looks : isPending m ≡ false → live (T .members) (succOf T n) ≡ true → isBetter (T .members) m ≡ true → named (stabilized n T .members) n ≡ awaitCandidate (offered (T .members) m) (adopt (succOf T n) (named (T .members) (succOf T n) .successors) m)
+    pub left-looks : isPending m ≡ false → live (T .members) (succOf T n) ≡ true → isBetter (T .members) m ≡ true
+        → named (stabilized n T .members) n ≡ awaitCandidate (offered (T .members) m) (adopt (succOf T n) (named (T .members) (succOf T n) .successors) m)
     left-looks p l b = stepped-named T k n i ∙ sym (step-live (T .members) m (spaceOf T) p l) ∙ sym (offered-better (T .members) m b)
 
-    pub left-settles : isPending m ≡ false → live (T .members) (succOf T n) ≡ true → isBetter (T .members) m ≡ false → named (stabilized n T .members) n ≡ adopt (succOf T n) (named (T .members) (succOf T n) .successors) m
+    pub left-settles : isPending m ≡ false → live (T .members) (succOf T n) ≡ true → isBetter (T .members) m ≡ false
+        → named (stabilized n T .members) n ≡ adopt (succOf T n) (named (T .members) (succOf T n) .successors) m
     left-settles p l b = stepped-named T k n i ∙ sym (step-live (T .members) m (spaceOf T) p l) ∙ sym (offered-no-better (T .members) m b)
 
 -- The steps of a turn end with "done": a live entry stands at place j of the list, "again" drops one before it, and two steps more are enough
@@ -111,20 +113,25 @@ module _ (n : ℕ) where
   until j zero T k i a h = absurd (omega arith)
   until j (suc f) T k i a h = go (isDone n T) refl (λ j b. until j f (stabilized n T) (acted-step T k n i .lasts .kept) (stays-in n (acted-step T k n i) i) b)
     where
-      dropped : (j : ℕ) → LiveAt (ids (T .members)) (named (T .members) n .successors) j → suc (suc j) ≤ suc f → live (T .members) (succOf T n) ≡ false → ((j : ℕ) → Later f T (dropHead (spaceOf T) (named (T .members) n)) j) → UntilDone n (stabilized n T) (untilDone f n (stabilized n T))
+      dropped : (j : ℕ) → LiveAt (ids (T .members)) (named (T .members) n .successors) j → suc (suc j) ≤ suc f → live (T .members) (succOf T n) ≡ false
+          → ((j : ℕ) → Later f T (dropHead (spaceOf T) (named (T .members) n)) j) → UntilDone n (stabilized n T) (untilDone f n (stabilized n T))
       dropped zero a h d ih = absurd (true≢false (sym (a .lives) ∙ d))
       dropped (suc j) a h d ih = ih j (in-front (ids (T .members)) (named (T .members) n .successors) _ j a) (omega arith)
 
-      on : {l : List ℕ} {u : Member} → eqb (getD l 0 0) 2 ≡ false → NextWay n T l u → named (stabilized n T .members) n ≡ u → ((j : ℕ) → Later f T u j) → UntilDone n (stabilized n T) (untilDone f n (stabilized n T))
+      on : {l : List ℕ} {u : Member} → eqb (getD l 0 0) 2 ≡ false → NextCase n T l u → named (stabilized n T .members) n ≡ u → ((j : ℕ) → Later f T u j)
+          → UntilDone n (stabilized n T) (untilDone f n (stabilized n T))
       on e (takes p l) q ih = absurd (true≢false e)
       on e (clears p l) q ih = absurd (true≢false e)
       on e (drops p d) q ih = dropped j a h d ih
       on e (looks p l b) q ih = until-now f (stabilized n T) (omega arith) (pending-done n (stabilized n T) (ap isPending q))
       on e (settles p l b) q ih = absurd (true≢false e)
 
-      go : (b : Bool) → isDone n T ≡ b → ((j : ℕ) → LiveAt (ids (stabilized n T .members)) (named (stabilized n T .members) n .successors) j → suc (suc j) ≤ f → UntilDone n (stabilized n T) (untilDone f n (stabilized n T))) → UntilDone n T (if b then lastStep n T else untilDone f n (stabilized n T))
+      go : (b : Bool) → isDone n T ≡ b → ((j : ℕ) → LiveAt (ids (stabilized n T .members)) (named (stabilized n T .members) n .successors) j → suc (suc j) ≤ f
+          → UntilDone n (stabilized n T) (untilDone f n (stabilized n T))) → UntilDone n T (if b then lastStep n T else untilDone f n (stabilized n T))
       go true e ih = last e
-      go false e ih = more e (on e (next-way n T k i) refl (λ j b g. ih j (subst (λ (xs : List ℕ). LiveAt xs (named (stabilized n T .members) n .successors) j) (sym (acted-step T k n i .lasts .same-ids)) b) g))
+      go false e ih = more e (on e (next-case n T k i) refl
+          (λ j b g. ih j (subst (λ (xs : List ℕ). LiveAt xs (named (stabilized n T .members) n .successors) j) (sym (acted-step T k n i .lasts .same-ids)) b)
+          g))
 
   -- on a sound table with n a bound of r + 1 steps or more is never what ends them
   until-done : (f : ℕ) (T : Table) → Kept T → In n (ids (T .members)) → suc (T .r) ≤ f → UntilDone n T (untilDone f n T)
@@ -157,9 +164,9 @@ module _ (n : ℕ) where
     -- by the step that replies "done"
     done-head : isDone n T ≡ true → Ready T → Heads (stabilized n T) (getD (nextReply n T) 1 0)
     unfolding Ready
-    done-head e ready = let h = go e (next-way n T k i) in record { quiet = h .0; is = h .1; lives = in-next (h .2) }
+    done-head e ready = let h = go e (next-case n T k i) in record { quiet = h .0; is = h .1; lives = in-next (h .2) }
       where
-        go : {l : List ℕ} {u : Member} → eqb (getD l 0 0) 2 ≡ true → NextWay n T l u → (isPending u ≡ false) × (successor u ≡ getD l 1 0) × (live (T .members) (getD l 1 0) ≡ true)
+        go : {l : List ℕ} {u : Member} → eqb (getD l 0 0) 2 ≡ true → NextCase n T l u → (isPending u ≡ false) × (successor u ≡ getD l 1 0) × (live (T .members) (getD l 1 0) ≡ true)
         go e (takes p l) = (refl, refl, l)
         go e (clears p l) = (refl, refl, ready p)
         go e (drops p d) = absurd (true≢false (sym e))
@@ -169,9 +176,9 @@ module _ (n : ℕ) where
     -- by the step before it
     next-ready : isDone n T ≡ false → Ready (stabilized n T)
     unfolding Ready
-    next-ready e q = in-live (stabilized n T .members) (in-next (go e (next-way n T k i) q))
+    next-ready e q = in-live (stabilized n T .members) (in-next (go e (next-case n T k i) q))
       where
-        go : {l : List ℕ} {u : Member} → eqb (getD l 0 0) 2 ≡ false → NextWay n T l u → isPending u ≡ true → live (T .members) (successor u) ≡ true
+        go : {l : List ℕ} {u : Member} → eqb (getD l 0 0) 2 ≡ false → NextCase n T l u → isPending u ≡ true → live (T .members) (successor u) ≡ true
         go e (takes p l) q = absurd (true≢false e)
         go e (clears p l) q = absurd (true≢false e)
         go e (drops p d) q = absurd (true≢false (sym q ∙ p))
@@ -181,7 +188,11 @@ module _ (n : ℕ) where
     -- by the notice: h takes n for its predecessor, or has a live one that is nearer
     met-notice : (h : ℕ) → Heads T h → Calm (rectified h n T) n
     unfolding renews
-    met-notice h s = record { quiet = list .is-pending ∙ s .quiet; lives = rw (is-h, same) (s .lives); met = rw is-h (go (between p n (u .id)) refl (live (T .members) p) refl (ap (λ (x : Member). x .predecessor) (noticed-named T k h (s .lives) n))) }
+    met-notice h s = record {
+      quiet = list .is-pending ∙ s .quiet;
+      lives = rw (is-h, same) (s .lives);
+      met = rw is-h (go (between p n (u .id)) refl (live (T .members) p) refl (ap (λ (x : Member). x .predecessor) (noticed-named T k h (s .lives) n)));
+    }
       where
         u : Member
         u = named (T .members) h
@@ -202,7 +213,8 @@ module _ (n : ℕ) where
         kept q (inl e) l = by-own (q ∙ e)
         kept q (inr j) l = by-nearer (rw (q, same) (live-in (T .members) p l)) (rw q j)
 
-        go : (a : Bool) → between p n (u .id) ≡ a → (b : Bool) → live (T .members) p ≡ b → predOf (rectified h n T) h ≡ (if a || not b then withPredecessor n u else u) .predecessor → Met (rectified h n T) n h
+        go : (a : Bool) → between p n (u .id) ≡ a → (b : Bool) → live (T .members) p ≡ b
+            → predOf (rectified h n T) h ≡ (if a || not b then withPredecessor n u else u) .predecessor → Met (rectified h n T) n h
         go true ea b eb q = by-own q
         go false ea false eb q = by-own q
         go false ea true eb q = kept q (other-side (rw (found (T .members) (s .lives) .1) at (false-outside p n (u .id) ea)) (λ e. not-own T k n i (e ∙ sym (s .is)))) eb
@@ -224,7 +236,7 @@ module _ (n : ℕ) where
   unfolding finished lastStep
   finished-quiet T k i = go (isPending (named (T .members) n)) refl
     where
-      quiet : {l : List ℕ} {u : Member} → isPending (named (T .members) n) ≡ true → NextWay n T l u → isPending u ≡ false
+      quiet : {l : List ℕ} {u : Member} → isPending (named (T .members) n) ≡ true → NextCase n T l u → isPending u ≡ false
       quiet e (takes p l) = refl
       quiet e (clears p l) = refl
       quiet e (drops p d) = p
@@ -232,7 +244,7 @@ module _ (n : ℕ) where
       quiet e (settles p l b) = p
 
       go : (b : Bool) → isPending (named (T .members) n) ≡ b → isPending (named ((if b then delivered n (getD (nextReply n T) 1 0) (stabilized n T) else T) .members) n) ≡ false
-      go true e = delivered-list n _ (stabilized n T) (acted-step T k n i .lasts .kept) n .is-pending ∙ quiet e (next-way n T k i)
+      go true e = delivered-list n _ (stabilized n T) (acted-step T k n i .lasts .kept) n .is-pending ∙ quiet e (next-case n T k i)
       go false e = e
 
   pub calm-turn : (T : Table) → Kept T → In n (ids (T .members)) → Calm (afterTurn n T) n

@@ -64,4 +64,5 @@ Demand3 = (cs : List Call) (ws : List ℕ) → Starts cs ws → Holds (run cs ws
 
 -- ring membership as computed is document 01's, on every well-formed table
 abbrev pub RingAsComputed : Type 0
-RingAsComputed = (ws : List ℕ) → wellFormed ws ≡ true → (x : ℕ) → live (membersIn ws) x ≡ true → (onRing (membersIn ws) x ≡ true → ComesBack (membersIn ws) x) × (ComesBack (membersIn ws) x → onRing (membersIn ws) x ≡ true)
+RingAsComputed = (ws : List ℕ) → wellFormed ws ≡ true → (x : ℕ) → live (membersIn ws) x ≡ true
+    → (onRing (membersIn ws) x ≡ true → ComesBack (membersIn ws) x) × (ComesBack (membersIn ws) x → onRing (membersIn ws) x ≡ true)

@@ -120,7 +120,13 @@ module _ (xs : List ℕ) (rise : Rising xs) (pr : ℕ → Bool) where
     far-few : (m y : ℕ) → In y xs → Far m y → m ≤ count (λ x. not (pr x)) xs
     far-few m y i f =
         let a = apart m y i f in
-        omega (arith, a .many, pigeonhole (a .these) (select (λ x. not (pr x)) xs) (a .different) (λ x j. in-select (λ x. not (pr x)) (a .members x j) (ap not (a .none x j))), select-count (λ x. not (pr x)) xs)
+        omega (
+          arith,
+          a .many,
+          pigeonhole (a .these) (select (λ x. not (pr x)) xs) (a .different)
+              (λ x j. in-select (λ x. not (pr x)) (a .members x j) (ap not (a .none x j))),
+          select-count (λ x. not (pr x)) xs,
+        )
 
   -- Rounds
 
@@ -210,7 +216,8 @@ module _ (xs : List ℕ) (rise : Rising xs) (pr : ℕ → Bool) where
             let d = b .before in
             let u = succOf T d in
             let iu = alive d (b .member) in
-            far-fill d u iu (λ q j h. skipped T c d q (b .member) j h) k (succOf T n) (alive n i) (passed-on (rw (b .up) at (up-spares xs rise d u iu)) ne (not-self d (b .member))) (v .far d (b .member) (λ e. ne (e ∙ b .up)))
+            far-fill d u iu (λ q j h. skipped T c d q (b .member) j h) k (succOf T n) (alive n i)
+            (passed-on (rw (b .up) at (up-spares xs rise d u iu)) ne (not-self d (b .member))) (v .far d (b .member) (λ e. ne (e ∙ b .up)))
 
         further : Far (suc k) (succOf T n) → Which → Far (suc k) (turn .next)
         further f (inl h) = rw (h .1) f
@@ -256,7 +263,8 @@ module _ (xs : List ℕ) (rise : Rising xs) (pr : ℕ → Bool) where
             absurd (omega (arith, far-few some p ip ep (suc k) (b .before) (b .member) (d-none k x T i v ne b, rw (b .up) (v .far x i ne))))
 
     -- a turn of a member whose successor is right: it stays, and its list is followed
-    pub right-turn : (n : ℕ) (T : Table) → In n xs → AllCalm r xs pr T → succOf T n ≡ nextUp xs n → named (afterTurn n T .members) n .successors ≡ nextUp xs n ∷ withoutLast (named (T .members) (nextUp xs n) .successors)
+    pub right-turn : (n : ℕ) (T : Table) → In n xs → AllCalm r xs pr T → succOf T n ≡ nextUp xs n
+        → named (afterTurn n T .members) n .successors ≡ nextUp xs n ∷ withoutLast (named (T .members) (nextUp xs n) .successors)
     right-turn n T i a e =
         let v : Fars 0 T = record { all = a; far = λ x j ne. tt } in
         let t = turn 0 n T i v in

@@ -21,7 +21,7 @@ use Rattle.laws.specs.Fold.{all-keep}
 use Rattle.laws.specs.Lists.{In, found, live-in, in-live}
 use Rattle.laws.specs.Accepted.{answer-number, afterwards-has, join-accepted, member-table, member-accepted, settle-accepted}
 use Rattle.laws.specs.Tables.{wellFormed-facts, formed-lists}
-use Rattle.laws.specs.Stabilize.{Way, takes, clears, drops, looks, settles, way-of, same-id}
+use Rattle.laws.specs.Stabilize.{StepCase, takes, clears, drops, looks, settles, step-case, same-id}
 use Rattle.laws.specs.Words.{written-table}
 use Rattle.laws.specs.Rectify.{rectify-same}
 use Rattle.laws.specs.Searches.{found-first}
@@ -65,9 +65,9 @@ replaced-headed ms v n h i f s = go (eqb (v .id) n) refl
 
 -- whatever is adopted is a member
 stabilize-head : (w : ℕ) (ms : List Member) (m : Member) → live ms (successor m) ≡ true → live ms (successor (stabilize w ms m)) ≡ true
-stabilize-head w ms m h = go (way-of w ms m)
+stabilize-head w ms m h = go (step-case w ms m)
   where
-    go : {l : List ℕ} {u : Member} → Way w ms m l u → live ms (successor u) ≡ true
+    go : {l : List ℕ} {u : Member} → StepCase w ms m l u → live ms (successor u) ≡ true
     go (takes p l) = l
     go (clears p l) = h
     go (drops p l) = absurd (true≢false (sym h ∙ l))
@@ -81,7 +81,11 @@ round-headed T k n h =
     let i = live-in (T .members) n (h .member) in
     let a = calm-round (T .r) (ids (T .members)) (principal (T .members)) T (record { kept = k; is-r = refl; is-ids = refl; spares = λ q j p. p }) in
     let j : In n (ids ms) = rw (a .common .is-ids) i in
-    record { member = in-live ms j; first-live = in-live ms (a .calm n i .lives); some-entry = omega (arith, a .common .kept .formed .each (named ms n) (found ms j .0) .list-length, a .common .kept .formed .r-low) }
+    record {
+      member = in-live ms j;
+      first-live = in-live ms (a .calm n i .lives);
+      some-entry = omega (arith, a .common .kept .formed .each (named ms n) (found ms j .0) .list-length, a .common .kept .formed .r-low);
+    }
 
 rounds-headed : (j : ℕ) (T : Table) → Kept T → (n : ℕ) → Headed (T .members) n → Headed (afterRounds j T .members) n
 rounds-headed zero T k n h = h
@@ -108,7 +112,9 @@ module _ (ws : List ℕ) where
       let a = join-accepted ws j p e in
       let v = joiner ms j p in
       let none : In j (ids ms) → ⊥ = λ i. true≢false (sym (in-live ms i) ∙ a .new) in
-      rw e (read-headed (joined j p (tableOf ws)) ws (joined-read ws j p e) (changed-headed j v (inserted-changed v ms) (in-live (inserted v ms) (inserted-in v ms)) (inserted-named v ms none) (a .first-live) (low _ (a .table) (joiner-listed ws j p e))))
+      rw e (read-headed (joined j p (tableOf ws)) ws (joined-read ws j p e)
+      (changed-headed j v (inserted-changed v ms) (in-live (inserted v ms) (inserted-in v ms)) (inserted-named v ms none) (a .first-live)
+      (low _ (a .table) (joiner-listed ws j p e))))
 
   module _ (n : ℕ) (h : Has n ws) where
     join-headed : (j p : ℕ) → Has n (joinWords ws j p)
@@ -121,7 +127,9 @@ module _ (ws : List ℕ) where
             let v = joiner ms j p in
             let c = inserted-changed v ms in
             let other : j ≡ n → ⊥ = λ q. true≢false (sym (h .member) ∙ ap (live ms) (sym q) ∙ join-accepted ws j p e .new) in
-            read-headed (joined j p (tableOf ws)) ws (joined-read ws j p e) (changed-headed n (named ms n) c (in-live (inserted v ms) (c .grows n (live-in ms n (h .member)))) (inserted-others v n ms other) (h .first-live) (h .some-entry))
+            read-headed (joined j p (tableOf ws)) ws (joined-read ws j p e)
+            (changed-headed n (named ms n) c (in-live (inserted v ms) (c .grows n (live-in ms n (h .member)))) (inserted-others v n ms other)
+            (h .first-live) (h .some-entry))
 
     stabilize-headed : (m : ℕ) → Has n (stabilizeWords ws m)
     unfolding stabilizeWords
@@ -132,7 +140,8 @@ module _ (ws : List ℕ) where
             let ms = membersIn ws in
             let i = live-in ms m (member-accepted ws m e) in
             let same : stabilize (spaceOf (tableOf ws)) ms (named ms m) .id ≡ m = same-id ms (named ms m) (spaceOf (tableOf ws)) ∙ found ms i .1 in
-            read-headed (stabilized m (tableOf ws)) ws (stabilized-read ws m e) (replaced-headed ms (stabilize (spaceOf (tableOf ws)) ms (named ms m)) n h (subst (λ (x : ℕ). In x (ids ms)) (sym same) i)
+            read-headed (stabilized m (tableOf ws)) ws (stabilized-read ws m e)
+            (replaced-headed ms (stabilize (spaceOf (tableOf ws)) ms (named ms m)) n h (subst (λ (x : ℕ). In x (ids ms)) (sym same) i)
             (λ q. stabilize-head (spaceOf (tableOf ws)) ms (named ms m) (subst (λ (x : ℕ). live ms (successor (named ms x)) ≡ true) (sym q ∙ same) (h .first-live)))
             (low _ (member-table ws m e) (stabilize-listed ws m e)))
 
@@ -184,9 +193,9 @@ served-headed ss ws n h g = all-keep serviceWords (Has n) (λ us s. not (goesSer
 -- What follows for n
 
 reply-not-again : (ms : List Member) (m : Member) → live ms (successor m) ≡ true → stabilizeReply ms m ≡ 0 ∷ [] → ⊥
-reply-not-again ms m h e = go (way-of 0 ms m) e
+reply-not-again ms m h e = go (step-case 0 ms m) e
   where
-    go : {l : List ℕ} {u : Member} → Way 0 ms m l u → l ≡ 0 ∷ [] → ⊥
+    go : {l : List ℕ} {u : Member} → StepCase 0 ms m l u → l ≡ 0 ∷ [] → ⊥
     go (takes p l) e = omega (arith, ap (λ (l : List ℕ). getD l 0 0) e)
     go (clears p l) e = omega (arith, ap (λ (l : List ℕ). getD l 0 0) e)
     go (drops p l) e = true≢false (sym h ∙ l)
@@ -207,8 +216,14 @@ live-head ws n h = record {
     go (suc k) e = omega (arith, ap (λ (a : Answer). a .number) e)
 
 -- after every list of calls, rounds and settles by which no member goes: whoever was a member with a live first entry is one still
-pub heads-stay : (ss : List Service) (ws : List ℕ) (n : ℕ) → wellFormed ws ≡ true → live (membersIn ws) n ≡ true → live (membersIn ws) (successor (named (membersIn ws) n)) ≡ true → noneGoes ss ws ≡ true → LiveHead (served ss ws) n
-heads-stay ss ws n w l f g = live-head (served ss ws) n (served-headed ss ws n (record { member = l; first-live = f; some-entry = low ws _ w (wellFormed-facts ws w .table .each (named (membersIn ws) n) (found (membersIn ws) (live-in (membersIn ws) n l) .0) .list-length) }) g)
+pub heads-stay : (ss : List Service) (ws : List ℕ) (n : ℕ) → wellFormed ws ≡ true → live (membersIn ws) n ≡ true
+    → live (membersIn ws) (successor (named (membersIn ws) n)) ≡ true → noneGoes ss ws ≡ true → LiveHead (served ss ws) n
+heads-stay ss ws n w l f g = live-head (served ss ws) n
+    (served-headed ss ws n (record {
+      member = l;
+      first-live = f;
+      some-entry = low ws _ w (wellFormed-facts ws w .table .each (named (membersIn ws) n) (found (membersIn ws) (live-in (membersIn ws) n l) .0) .list-length);
+    }) g)
 
 -- and so is a new member, at once and then
 pub new-head : (ss : List Service) (ws : List ℕ) (j p : ℕ) → accepts ws (Join j p) ≡ true → noneGoes ss (callWords ws (Join j p)) ≡ true → LiveHead (served ss (callWords ws (Join j p))) j

@@ -24,7 +24,7 @@ use Rattle.laws.specs.Accepted.{member-accepts}
 use Rattle.laws.specs.Tables.{Formed, wellFormed-facts, ideal-facts}
 use Rattle.theory.specs.New.{up-in, down-in, up-spares, down-spares}
 use Rattle.theory.specs.Lookup.{Answered, lookupAnswer-answers}
-use Rattle.theory.specs.Owners.{Finds, Owns}
+use Rattle.theory.specs.KeyOwners.{Finds, Owns}
 
 -- The statement
 
@@ -211,7 +211,8 @@ ideal-successor : (T : Table) → 1 ≤ T .r → ideal T ≡ true → {m : Membe
 ideal-successor T some-entry h {m} i = ap (λ (l : List ℕ). getD l 0 0) (ideal-facts T h .each m i .list) ∙ next-ups-first (T .r) (ids (T .members)) (m .id) some-entry
 
 -- each member's search finds the next member up at once
-pub ideal-found : (T : Table) → Formed T → ideal T ≡ true → {m : Member} → In m (T .members) → searched (T .members) (m .successors) ≡ record { entry = some (nextUp (ids (T .members)) (m .id)); passed = 0 }
+pub ideal-found : (T : Table) → Formed T → ideal T ≡ true → {m : Member} → In m (T .members)
+    → searched (T .members) (m .successors) ≡ record { entry = some (nextUp (ids (T .members)) (m .id)); passed = 0 }
 ideal-found T fo h {m} i =
     let ms : List Member = T .members in
     let s : successor m ≡ nextUp (ids ms) (m .id) = ideal-successor T (fo .r-low) h i in
@@ -235,6 +236,7 @@ module _ (ws : List ℕ) (wf : wellFormed ws ≡ true) (h : ideal (tableOf ws) �
       go : Answered (membersIn ws) n k (lookupAnswer ws n k) → Finds ws n k (holder (membersIn ws) k)
       go (inl o) =
           let up : nextUp (ids (membersIn ws)) (o .q) ≡ o .b = cc (moves-up (o .q) (o .place-live), o .move) in
-          let e = owner-holds (ids (membersIn ws)) (fo .ids-rising) (o .q) (o .b) (live-in (membersIn ws) (o .b) (o .owner-live)) (λ z j. rw up at (up-spares (ids (membersIn ws)) (fo .ids-rising) (o .q) z j)) k (o .owns) in
+          let e = owner-holds (ids (membersIn ws)) (fo .ids-rising) (o .q) (o .b) (live-in (membersIn ws) (o .b) (o .owner-live))
+          (λ z j. rw up at (up-spares (ids (membersIn ws)) (fo .ids-rising) (o .q) z j)) k (o .owns) in
           record { place = o .q; moves = o .moves; passed = o .passed; answer = rw e (o .answer) }
       go (inr c) = let z : _≡_ {A = ℕ} 0 1 = cc (moves-up (c .q) (c .place-live), c .no-move) in absurd (omega arith)

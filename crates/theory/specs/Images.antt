@@ -54,7 +54,8 @@ unfolding readWords readRefusal
 read-words ws bs h fits = rw (h, le-ltb (length ws) (size (tableIn bs)) fits)
 
 -- the bytes that a call wrote, read into another slice long enough, give the table again
-pub read-back : (ws bs vs : List ℕ) → wellFormed ws ≡ true → length (imageOf (tableOf ws)) ≤ length bs → size (tableOf ws) ≤ length vs → readWords vs (take (length (imageOf (tableOf ws))) (writeBytes ws bs)) ≡ written (tableOf ws) vs
+pub read-back : (ws bs vs : List ℕ) → wellFormed ws ≡ true → length (imageOf (tableOf ws)) ≤ length bs → size (tableOf ws) ≤ length vs
+    → readWords vs (take (length (imageOf (tableOf ws))) (writeBytes ws bs)) ≡ written (tableOf ws) vs
 read-back ws bs vs h room fits =
     let T : Table = tableOf ws in
     let back = read-written T (facts-formed T (wellFormed-facts ws h .table)) in

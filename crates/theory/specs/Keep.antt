@@ -38,7 +38,8 @@ live-stays : (ms ns : List Member) (l : List ℕ) → ((x : ℕ) → In x (ids m
 live-stays ms ns l sub h = let w = any-in (live ms) l h in in-any (live ns) (w .1) (in-live ns (sub (w .0) (live-in ms (w .0) (w .2))))
 
 -- the principals stay principals, for neither the old lists nor the fresh one skip them
-pub changed-principal : (T : Table) (v : Member) (ns : List Member) → Fresh T v → Changed (T .members) v ns → (q : ℕ) → In q (ids (T .members)) → principal (T .members) q ≡ true → principal ns q ≡ true
+pub changed-principal : (T : Table) (v : Member) (ns : List Member) → Fresh T v → Changed (T .members) v ns → (q : ℕ) → In q (ids (T .members))
+    → principal (T .members) q ≡ true → principal ns q ≡ true
 changed-principal T v ns f c q k h = in-every (λ m. not (skips q (m .id) (m .successors))) ns (λ m i. spared m (c .from m i))
   where
     spared : (m : Member) → (m ≡ v) ⊎ In m (T .members) → not (skips q (m .id) (m .successors)) ≡ true
@@ -61,7 +62,8 @@ changed-sound T v ns s f c = record {
     inside m (inl e) = rw e (f .candidate-inside)
     inside m (inr i) = s .candidate-inside m i
 
-pub changed-formed : (T : Table) (v : Member) (ns : List Member) → Formed T → FormedMember (spaceOf T) (T .r) v → Changed (T .members) v ns → length ns ≤ 256 → Rising (ids ns) → Formed (withMembers ns T)
+pub changed-formed : (T : Table) (v : Member) (ns : List Member) → Formed T → FormedMember (spaceOf T) (T .r) v → Changed (T .members) v ns → length ns ≤ 256
+    → Rising (ids ns) → Formed (withMembers ns T)
 changed-formed T v ns t f c few rise = members-formed t ns few rise (λ m i. go m (c .from m i))
   where
     go : (m : Member) → (m ≡ v) ⊎ In m (T .members) → FormedMember (spaceOf T) (T .r) m
@@ -91,7 +93,8 @@ pub replaced-named : (v : Member) (ms : List Member) → In (v .id) (ids ms) →
 replaced-named v [] i = absurd (in-nil i)
 replaced-named v (m ∷ ms) i = go (eqb (m .id) (v .id)) refl (in-cons i) (replaced-named v ms)
   where
-    go : (b : Bool) → eqb (m .id) (v .id) ≡ b → (v .id ≡ m .id) ⊎ In (v .id) (ids ms) → (In (v .id) (ids ms) → named (replaced v ms) (v .id) ≡ v) → named (if b then v ∷ ms else m ∷ replaced v ms) (v .id) ≡ v
+    go : (b : Bool) → eqb (m .id) (v .id) ≡ b → (v .id ≡ m .id) ⊎ In (v .id) (ids ms) → (In (v .id) (ids ms) → named (replaced v ms) (v .id) ≡ v)
+        → named (if b then v ∷ ms else m ∷ replaced v ms) (v .id) ≡ v
     go true e i ih = rw (eq-eqb (v .id) (v .id) refl)
     go false e (inl q) ih = absurd (eqb-false (m .id) (v .id) e (sym q))
     go false e (inr j) ih = rw e (ih j)
@@ -173,7 +176,8 @@ inserted-above : (x : ℕ) (v : Member) (ms : List Member) → x < v .id → Abo
 inserted-above x v [] h a n = (h, tt)
 inserted-above x v (m ∷ ms) h a n = go (ltb (v .id) (m .id)) refl (inserted-above (m .id) v ms)
   where
-    go : (b : Bool) → ltb (v .id) (m .id) ≡ b → (m .id < v .id → Above (m .id) (ids ms) → (In (v .id) (ids ms) → ⊥) → Above (m .id) (ids (inserted v ms))) → Above x (ids (if b then v ∷ m ∷ ms else m ∷ inserted v ms))
+    go : (b : Bool) → ltb (v .id) (m .id) ≡ b → (m .id < v .id → Above (m .id) (ids ms) → (In (v .id) (ids ms) → ⊥) → Above (m .id) (ids (inserted v ms)))
+        → Above x (ids (if b then v ∷ m ∷ ms else m ∷ inserted v ms))
     go true e ih = (h, (ltb-true (v .id) (m .id) e, a .1))
     go false e ih = let ne : v .id ≡ m .id → ⊥ = λ q. n (here q) in (a .0, ih (omega (arith, ltb-false (v .id) (m .id) e)) (a .1) (λ i. n (there i)))
 

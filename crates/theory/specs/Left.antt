@@ -15,7 +15,7 @@ use Rattle.model.specs.Refusals.{joinRefusal, memberRefusal, leaveRefusal}
 use Rattle.model.specs.Calls.{written, writtenFreed, stabilizeWords, failWords, leaveWords}
 use Rattle.laws.specs.Lists.{In, found, live-in}
 use Rattle.laws.specs.Accepted.{join-accepted, member-table, member-accepted, leave-accepted}
-use Rattle.laws.specs.Stabilize.{Way, takes, clears, drops, looks, settles, way-of}
+use Rattle.laws.specs.Stabilize.{StepCase, takes, clears, drops, looks, settles, step-case}
 use Rattle.laws.specs.Rectify.{rectify-same}
 use Rattle.laws.specs.Words.{Lengths, written-table, writtenFreed-table}
 use Rattle.laws.specs.Tables.{wellFormed-facts, formed-lists}
@@ -40,9 +40,9 @@ module _ (r : ℕ) (ms : List Member) (lists : Lengths r ms) (low : 1 ≤ r) whe
   adopted x m l = adopted-length x (named ms x .successors) (omega (arith, listed x l)) ∙ listed x l
 
   stabilize-list : (w : ℕ) (m : Member) → In m ms → length (stabilize w ms m .successors) ≡ r
-  stabilize-list w m i = go (way-of w ms m)
+  stabilize-list w m i = go (step-case w ms m)
     where
-      go : {l : List ℕ} {u : Member} → Way w ms m l u → length (u .successors) ≡ r
+      go : {l : List ℕ} {u : Member} → StepCase w ms m l u → length (u .successors) ≡ r
       go (takes p l) = adopted (m .candidate) m l
       go (clears p l) = lists m i
       go (drops p l) = dropped-length (after w (lastOf (m .successors))) (m .successors) (omega (arith, lists m i)) ∙ lists m i
@@ -67,10 +67,12 @@ module _ (ws : List ℕ) where
   joiner-listed j p e = let a = join-accepted ws j p e in listed (tableOf ws .r) (membersIn ws) (lists-in (a .table)) (low-in (a .table)) p (a .by)
 
   pub stabilize-listed : (n : ℕ) → memberRefusal ws n ≡ 0 → length (stabilize (spaceOf (tableOf ws)) (membersIn ws) (named (membersIn ws) n) .successors) ≡ tableOf ws .r
-  stabilize-listed n e = let h = member-table ws n e in stabilize-list (tableOf ws .r) (membersIn ws) (lists-in h) (low-in h) (spaceOf (tableOf ws)) (named (membersIn ws) n) (found (membersIn ws) (live-in (membersIn ws) n (member-accepted ws n e)) .0)
+  stabilize-listed n e = let h = member-table ws n e in stabilize-list (tableOf ws .r) (membersIn ws) (lists-in h) (low-in h) (spaceOf (tableOf ws))
+      (named (membersIn ws) n) (found (membersIn ws) (live-in (membersIn ws) n (member-accepted ws n e)) .0)
 
   pub rectify-listed : (n q : ℕ) → memberRefusal ws n ≡ 0 → length (rectifyIn (membersIn ws) q (named (membersIn ws) n) .successors) ≡ tableOf ws .r
-  rectify-listed n q e = let h = member-table ws n e in rectify-list (tableOf ws .r) (membersIn ws) (lists-in h) (low-in h) q (named (membersIn ws) n) (found (membersIn ws) (live-in (membersIn ws) n (member-accepted ws n e)) .0)
+  rectify-listed n q e = let h = member-table ws n e in rectify-list (tableOf ws .r) (membersIn ws) (lists-in h) (low-in h) q (named (membersIn ws) n)
+      (found (membersIn ws) (live-in (membersIn ws) n (member-accepted ws n e)) .0)
 
   -- the table that is written is the one that is read
 

@@ -1,4 +1,4 @@
--- Theorems about model alone. Claim has demand 3's statement, Demand3 its proof.
+-- Theorems about model alone. Claim has demand 3's statement, Demand3 its proof; Bound has settle's bound, BoundProof its proof.
 pub mod Claim
 pub mod Entries
 pub mod Walks
@@ -14,7 +14,7 @@ pub mod Losses
 pub mod New
 pub mod Withdrawals
 pub mod Lookup
-pub mod Owners
+pub mod KeyOwners
 pub mod Held
 pub mod Pairs
 pub mod Moves
@@ -25,7 +25,7 @@ pub mod Calm
 pub mod Rounds
 pub mod Far
 pub mod Right
-pub mod Settled
+pub mod BoundProof
 pub mod Passed
 pub mod Served
 pub mod Tight

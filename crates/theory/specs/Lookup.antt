@@ -88,14 +88,17 @@ module _ (ms : List Member) (n k : ℕ) where
   unfolding left
   left-less {q} {b} i h = count-lt (isBefore k b) (isBefore k q) (λ x j e. before-true (before-trans h (true-before k b x e))) i (before-false before-irrefl) (before-true h)
 
-  walk : (fuel q moves passed : ℕ) → In q (ids ms) → moved ms moves n ≡ some q → passed + passedBy ms (named ms q) ≡ passedOn ms moves n → left q < fuel → moves + left q < length ms → Answered ms n k (lookupFrom ms fuel k q moves passed)
+  walk : (fuel q moves passed : ℕ) → In q (ids ms) → moved ms moves n ≡ some q → passed + passedBy ms (named ms q) ≡ passedOn ms moves n → left q < fuel
+      → moves + left q < length ms → Answered ms n k (lookupFrom ms fuel k q moves passed)
   walk zero q moves passed i e a h g = absurd (omega arith)
   walk (suc fuel) q moves passed i e a h g = go (bestSuccessor ms q) refl (λ b. walk fuel b (suc moves) sum)
     where
       sum : ℕ
       sum = passed + passedBy ms (named ms q)
 
-      go : (o : Option ℕ) → bestSuccessor ms q ≡ o → ((b : ℕ) → In b (ids ms) → moved ms (suc moves) n ≡ some b → sum + passedBy ms (named ms b) ≡ passedOn ms (suc moves) n → left b < fuel → suc moves + left b < length ms → Answered ms n k (lookupFrom ms fuel k b (suc moves) sum)) →
+      go : (o : Option ℕ) → bestSuccessor ms q ≡ o → ((b : ℕ) → In b (ids ms) → moved ms (suc moves) n ≡ some b
+          → sum + passedBy ms (named ms b) ≡ passedOn ms (suc moves) n → left b < fuel → suc moves + left b < length ms
+          → Answered ms n k (lookupFrom ms fuel k b (suc moves) sum)) →
           Answered ms n k (option o (record { number = 8; values = q ∷ [] }) (λ b. if eqb k b || between q k b then accepted (b ∷ q ∷ moves ∷ sum ∷ []) else lookupFrom ms fuel k b (suc moves) sum))
       go none f ih = inr (record { q = q; moves = moves; answer = refl; few = omega arith; leads = e; place-live = in-live ms i; no-move = f })
       go (some b) f ih = sub (eqb k b || between q k b) refl
@@ -108,7 +111,20 @@ module _ (ms : List Member) (n k : ℕ) where
           owns (inr t) = inr t
 
           sub : (t : Bool) → (eqb k b || between q k b) ≡ t → Answered ms n k (if t then accepted (b ∷ q ∷ moves ∷ sum ∷ []) else lookupFrom ms fuel k b (suc moves) sum)
-          sub true t = inl (record { b = b; q = q; moves = moves; passed = sum; answer = refl; few = omega arith; leads = e; added = a; place-live = in-live ms i; owner-live = in-live ms ib; move = f; owns = owns (or-true _ _ t) })
+          sub true t = inl (record {
+            b = b;
+            q = q;
+            moves = moves;
+            passed = sum;
+            answer = refl;
+            few = omega arith;
+            leads = e;
+            added = a;
+            place-live = in-live ms i;
+            owner-live = in-live ms ib;
+            move = f;
+            owns = owns (or-true _ _ t);
+          })
           sub false t =
               let u = or-false _ _ t in
               let d = left-less ib (ahead-of (false-outside q k b (u .1)) (eqb-false k b (u .0))) in

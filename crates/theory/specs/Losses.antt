@@ -26,7 +26,8 @@ declined-unsound ws n h l d = go (every (hasLive ms) ms) refl (ltb (principals m
     ms : List Member
     ms = without n (tableOf ws) .members
 
-    go : (e : Bool) → every (hasLive ms) ms ≡ e → (t : Bool) → ltb (principals ms) (tableOf ws .r + 1) ≡ t → (_≡_ {A = ℕ} (if not e then 6 else if t then 7 else 0) 0 → ⊥) → verdict (without n (tableOf ws)) ≡ 0
+    go : (e : Bool) → every (hasLive ms) ms ≡ e → (t : Bool) → ltb (principals ms) (tableOf ws .r + 1) ≡ t
+        → (_≡_ {A = ℕ} (if not e then 6 else if t then 7 else 0) 0 → ⊥) → verdict (without n (tableOf ws)) ≡ 0
     go false e t q f = sym (verdict-cut-off (without n (tableOf ws)) e)
     go true e true q f = sym (verdict-few (without n (tableOf ws)) (omega (arith, ltb-true (principals ms) (tableOf ws .r + 1) q)))
     go true e false q f = absurd (f refl)

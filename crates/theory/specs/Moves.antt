@@ -77,7 +77,8 @@ module _ (ms : List Member) where
     where
       go : Looked (length ms) 0 x → Told ms x (movesToRing ms x)
       go (comes i few told f) = let e : movesToRing ms x ≡ i = omega (arith, told) in rw e (fewest f few)
-      go (passes told g) = never told (λ c. let s = sooner ms x (c .1 .moves) (live-in ms x l) (c .1 .leads) (c .1 .on) in true≢false (sym (s .on) ∙ g (s .moves) (s .place) (omega (arith, s .few, count-less (λ y. false) (live-in ms x l) refl, length-ids ms)) (s .leads)))
+      go (passes told g) = never told (λ c. let s = sooner ms x (c .1 .moves) (live-in ms x l) (c .1 .leads) (c .1 .on) in true≢false
+          (sym (s .on) ∙ g (s .moves) (s .place) (omega (arith, s .few, count-less (λ y. false) (live-in ms x l) refl, length-ids ms)) (s .leads)))
 
   -- The same, said apart
 

@@ -30,7 +30,8 @@ first-above : (x : ℕ) (l : List ℕ) (d : ℕ) → (In (firstAbove x l d) l ×
 first-above x [] d = inr refl
 first-above x (y ∷ l) d = go (ltb x y) refl (first-above x l d)
   where
-    go : (b : Bool) → ltb x y ≡ b → (In (firstAbove x l d) l × (x < firstAbove x l d)) ⊎ (firstAbove x l d ≡ d) → (In (if b then y else firstAbove x l d) (y ∷ l) × (x < (if b then y else firstAbove x l d))) ⊎ ((if b then y else firstAbove x l d) ≡ d)
+    go : (b : Bool) → ltb x y ≡ b → (In (firstAbove x l d) l × (x < firstAbove x l d)) ⊎ (firstAbove x l d ≡ d)
+        → (In (if b then y else firstAbove x l d) (y ∷ l) × (x < (if b then y else firstAbove x l d))) ⊎ ((if b then y else firstAbove x l d) ≡ d)
     go true e ih = inl (here refl, ltb-true x y e)
     go false e (inl i) = inl (there (i .0), i .1)
     go false e (inr i) = inr i
@@ -48,7 +49,8 @@ above-spares : (x d q : ℕ) (l : List ℕ) → Rising l → In q l → d ≤ q 
 above-spares x d q [] a i h = absurd (in-nil i)
 above-spares x d q (y ∷ l) a i h = go (ltb x y) refl (in-cons i) (first-above x l d) (λ j. above-spares x d q l (above-rising y l a) j h)
   where
-    go : (b : Bool) → ltb x y ≡ b → (q ≡ y) ⊎ In q l → (In (firstAbove x l d) l × (x < firstAbove x l d)) ⊎ (firstAbove x l d ≡ d) → (In q l → Outside x q (firstAbove x l d)) → Outside x q (if b then y else firstAbove x l d)
+    go : (b : Bool) → ltb x y ≡ b → (q ≡ y) ⊎ In q l → (In (firstAbove x l d) l × (x < firstAbove x l d)) ⊎ (firstAbove x l d ≡ d)
+        → (In q l → Outside x q (firstAbove x l d)) → Outside x q (if b then y else firstAbove x l d)
     go true e (inl p) f ih = beyond (ltb-true x y e) (omega arith)
     go true e (inr j) f ih = beyond (ltb-true x y e) (omega (arith, above-in l a j))
     go false e (inl p) (inl f) ih = below (omega (arith, ltb-false x y e)) (f .1)
@@ -134,20 +136,29 @@ module _ (r : ℕ) (xs : List ℕ) (ok : Acceptable r xs) where
   some = omega (arith, ok .enough)
 
   pub new-formed : ((x : ℕ) → In x xs → x < spaceOf (newTable r xs)) → Formed (newTable r xs)
-  new-formed small = table-formed r (map (newMember r xs) xs) (ok .r-low) (ok .r-high) (rw (length-map xs (newMember r xs)) (ok .few)) (rw (map-ids r xs xs) (ok .is-rising)) (each-new (FormedMember (spaceOf (newTable r xs)) r) r xs one)
+  new-formed small = table-formed r (map (newMember r xs) xs) (ok .r-low) (ok .r-high) (rw (length-map xs (newMember r xs)) (ok .few))
+      (rw (map-ids r xs xs) (ok .is-rising)) (each-new (FormedMember (spaceOf (newTable r xs)) r) r xs one)
     where
       one : (x : ℕ) → In x xs → FormedMember (spaceOf (newTable r xs)) r (newMember r xs x)
-      one x i = idle-formed (spaceOf (newTable r xs)) r x (nextDown xs x) (nextUps r xs x) (small x i) (small (nextDown xs x) (down-in xs some x)) (next-ups-length r xs x) (λ e j. small e (ups-in xs some r x e j))
+      one x i = idle-formed (spaceOf (newTable r xs)) r x (nextDown xs x) (nextUps r xs x) (small x i) (small (nextDown xs x) (down-in xs some x))
+          (next-ups-length r xs x) (λ e j. small e (ups-in xs some r x e j))
 
   -- every member is a principal
   all-principal : (q : ℕ) → In q xs → principal (newTable r xs .members) q ≡ true
-  all-principal q i = in-every (λ m. not (skips q (m .id) (m .successors))) (newTable r xs .members) (each-new (λ m. not (skips q (m .id) (m .successors)) ≡ true) r xs (λ x j. ap not (ups-skip xs (ok .is-rising) r x q i)))
+  all-principal q i = in-every (λ m. not (skips q (m .id) (m .successors))) (newTable r xs .members)
+      (each-new (λ m. not (skips q (m .id) (m .successors)) ≡ true) r xs (λ x j. ap not (ups-skip xs (ok .is-rising) r x q i)))
 
   pub new-sound : Sound (newTable r xs)
   unfolding candidateInside
   new-sound = record {
     live-entry = each-new (λ m. hasLive (newTable r xs .members) m ≡ true) r xs (λ x i. lively x);
-    enough = omega (arith, ok .enough, count-all xs, count-le (λ x. true) (principal (newTable r xs .members)) xs (λ q i e. all-principal q i), ap (count (principal (newTable r xs .members))) (map-ids r xs xs));
+    enough = omega (
+      arith,
+      ok .enough,
+      count-all xs,
+      count-le (λ x. true) (principal (newTable r xs .members)) xs (λ q i e. all-principal q i),
+      ap (count (principal (newTable r xs .members))) (map-ids r xs xs),
+    );
     candidate-inside = each-new (λ m. candidateInside m ≡ true) r xs (λ x i. refl);
   }
     where
@@ -163,7 +174,8 @@ module _ (r : ℕ) (xs : List ℕ) (ok : Acceptable r xs) where
   })
 
 -- an accepted new: the slice is well-formed and sound, and the verdict on it is 2
-pub new-good : (ws : List ℕ) (r : ℕ) (xs : List ℕ) → every (λ x. ltb x (spaceOf (newTable r xs))) xs ≡ true → newRefusal (length ws) r xs ≡ 0 → Good (newWords ws r xs) × (verdict (tableOf (newWords ws r xs)) ≡ 2)
+pub new-good : (ws : List ℕ) (r : ℕ) (xs : List ℕ) → every (λ x. ltb x (spaceOf (newTable r xs))) xs ≡ true → newRefusal (length ws) r xs ≡ 0
+    → Good (newWords ws r xs) × (verdict (tableOf (newWords ws r xs)) ≡ 2)
 unfolding newRefusal newWords verdict
 new-good ws r xs h e =
     let a = none-applies 10 (noNewTable r xs) _ e in

@@ -28,37 +28,37 @@ pub data Arrival (f : ℕ → ℕ) (test : ℕ → Bool) : ℕ → ℕ → Type 
   move : {n x : ℕ} → test x ≡ false → Arrival f test n (f x) → Arrival f test (suc n) x
 
 -- moves from x come to y, none of them from p
-data Way (f : ℕ → ℕ) (p y : ℕ) : ℕ → Type 0 where
-  stop : {x : ℕ} → x ≡ y → Way f p y x
-  step : {x : ℕ} → (x ≡ p → ⊥) → Way f p y (f x) → Way f p y x
+data Route (f : ℕ → ℕ) (p y : ℕ) : ℕ → Type 0 where
+  stop : {x : ℕ} → x ≡ y → Route f p y x
+  step : {x : ℕ} → (x ≡ p → ⊥) → Route f p y (f x) → Route f p y x
 
 pub returns-next : {f : ℕ → ℕ} {x : ℕ} → Returns f x → Returns f (f x)
 returns-next {f} {x} o = record { more = o .more; back = iterate-move f (o .more) (f x) ∙ ap f (o .back) }
 
 module _ {f : ℕ → ℕ} {p : ℕ} where
-  way-iterate : {y x : ℕ} → Way f p y x → (k : ℕ) × (iterate f k x ≡ y)
-  way-iterate (stop e) = (0, e)
-  way-iterate (step n d) = let w = way-iterate d in (suc (w .0), w .1)
+  route-iterate : {y x : ℕ} → Route f p y x → (k : ℕ) × (iterate f k x ≡ y)
+  route-iterate (stop e) = (0, e)
+  route-iterate (step n d) = let w = route-iterate d in (suc (w .0), w .1)
 
-  -- of two ways from one place, one is a part of the other
-  one-way : {x y z : ℕ} → Way f p y x → Way f p z x → Way f p z y ⊎ Way f p y z
-  one-way (stop e) d = inl (subst (Way f p _) e d)
-  one-way (step n d) (stop e) = inr (subst (Way f p _) e (step n d))
-  one-way (step n d) (step m c) = one-way d c
+  -- of two routes from one place, one is a part of the other
+  one-route : {x y z : ℕ} → Route f p y x → Route f p z x → Route f p z y ⊎ Route f p y z
+  one-route (stop e) d = inl (subst (Route f p _) e d)
+  one-route (step n d) (stop e) = inr (subst (Route f p _) e (step n d))
+  one-route (step n d) (step m c) = one-route d c
 
   -- moves that lead to a place do so without a move from p, or so from the last time that they left p
-  iterate-way : (k x : ℕ) → Way f p (iterate f k x) x ⊎ Way f p (iterate f k x) (f p)
-  iterate-way zero x = inl (stop refl)
-  iterate-way (suc k) x = go (equal? x p) (iterate-way k (f x))
+  iterate-route : (k x : ℕ) → Route f p (iterate f k x) x ⊎ Route f p (iterate f k x) (f p)
+  iterate-route zero x = inl (stop refl)
+  iterate-route (suc k) x = go (equal? x p) (iterate-route k (f x))
     where
-      go : (x ≡ p) ⊎ (x ≡ p → ⊥) → Way f p (iterate f k (f x)) (f x) ⊎ Way f p (iterate f k (f x)) (f p) → Way f p (iterate f k (f x)) x ⊎ Way f p (iterate f k (f x)) (f p)
+      go : (x ≡ p) ⊎ (x ≡ p → ⊥) → Route f p (iterate f k (f x)) (f x) ⊎ Route f p (iterate f k (f x)) (f p) → Route f p (iterate f k (f x)) x ⊎ Route f p (iterate f k (f x)) (f p)
       go t (inr d) = inr d
-      go (inl e) (inl d) = inr (subst (λ (u : ℕ). Way f p (iterate f k (f x)) (f u)) e d)
+      go (inl e) (inl d) = inr (subst (λ (u : ℕ). Route f p (iterate f k (f x)) (f u)) e d)
       go (inr n) (inl d) = inl (step n d)
 
-  arrival-way : {n x : ℕ} → Arrival f (λ y. eqb y p) n x → Way f p p x
-  arrival-way {n} {x} (arrived e) = stop (eqb-true x p e)
-  arrival-way {n} {x} (move e a) = step (eqb-false x p e) (arrival-way a)
+  arrival-route : {n x : ℕ} → Arrival f (λ y. eqb y p) n x → Route f p p x
+  arrival-route {n} {x} (arrived e) = stop (eqb-true x p e)
+  arrival-route {n} {x} (move e a) = step (eqb-false x p e) (arrival-route a)
 
 -- m is x or ahead of it, on the way round that ends at p
 ahead : ℕ → ℕ → ℕ → Bool
@@ -110,33 +110,33 @@ module _ (members : List ℕ) (f : ℕ → ℕ) (p : ℕ) (ip : In p members) (c
 
   -- so every member comes to p, and p comes back
   pub returns : Returns f p
-  returns = let w = way-iterate (arrival-way (arrives (λ y. eqb y p) (eq-eqb p p refl) (f p) (closed p ip))) in record { more = w .0; back = w .1 }
+  returns = let w = route-iterate (arrival-route (arrives (λ y. eqb y p) (eq-eqb p p refl) (f p) (closed p ip))) in record { more = w .0; back = w .1 }
 
-  -- a way without a move from p goes forward
-  way-forward : {y x : ℕ} → In x members → Way f p y x → (x ≡ y) ⊎ Before (suc p) x y
-  way-forward i (stop e) = inl e
-  way-forward {y} i (step {x} n d) = inr (go (way-forward (closed x i) d))
+  -- a route without a move from p goes forward
+  route-forward : {y x : ℕ} → In x members → Route f p y x → (x ≡ y) ⊎ Before (suc p) x y
+  route-forward i (stop e) = inl e
+  route-forward {y} i (step {x} n d) = inr (go (route-forward (closed x i) d))
     where
       go : (f x ≡ y) ⊎ Before (suc p) (f x) y → Before (suc p) x y
       go (inl e) = rw e at (forwards i n)
       go (inr b) = before-trans (forwards i n) b
 
   -- every ring goes through p: who comes back is on the way from p
-  ring-way : (z : ℕ) → In z members → Returns f z → Way f p z (f p)
-  ring-way z i o = go (equal? z p) (subst (λ (u : ℕ). Way f p u (f z) ⊎ Way f p u (f p)) (o .back) (iterate-way (o .more) (f z)))
+  ring-route : (z : ℕ) → In z members → Returns f z → Route f p z (f p)
+  ring-route z i o = go (equal? z p) (subst (λ (u : ℕ). Route f p u (f z) ⊎ Route f p u (f p)) (o .back) (iterate-route (o .more) (f z)))
     where
       never : (z ≡ p → ⊥) → (f z ≡ z) ⊎ Before (suc p) (f z) z → ⊥
       never n (inl e) = before-irrefl (rw e at (forwards i n))
       never n (inr b) = before-asym b (forwards i n)
 
-      go : (z ≡ p) ⊎ (z ≡ p → ⊥) → Way f p z (f z) ⊎ Way f p z (f p) → Way f p z (f p)
+      go : (z ≡ p) ⊎ (z ≡ p → ⊥) → Route f p z (f z) ⊎ Route f p z (f p) → Route f p z (f p)
       go t (inr d) = d
-      go (inl e) (inl d) = subst (λ (u : ℕ). Way f p z (f u)) e d
-      go (inr n) (inl d) = absurd (never n (way-forward (closed z i) d))
+      go (inl e) (inl d) = subst (λ (u : ℕ). Route f p z (f u)) e d
+      go (inr n) (inl d) = absurd (never n (route-forward (closed z i) d))
 
   -- the move from a ring member passes no ring member
   pub ring-next : (x z : ℕ) → In x members → In z members → Returns f x → Returns f z → Inside x z (f x) → ⊥
-  ring-next x z ix iz ox oz b = go (equal? x p) (ring-way z iz oz)
+  ring-next x z ix iz ox oz b = go (equal? x p) (ring-route z iz oz)
     where
       -- z further on than x
       further : (x ≡ p → ⊥) → (f x ≡ z) ⊎ Before (suc p) (f x) z → ⊥
@@ -148,15 +148,15 @@ module _ (members : List ℕ) (f : ℕ → ℕ) (p : ℕ) (ip : In p members) (c
       nearer n (inl e) = inside-ends b .0 e
       nearer n (inr k) = before-asym k (passed b (forwards ix n) .0)
 
-      apart : (x ≡ p → ⊥) → Way f p z x ⊎ Way f p x z → ⊥
+      apart : (x ≡ p → ⊥) → Route f p z x ⊎ Route f p x z → ⊥
       apart n (inl (stop e)) = inside-ends b .0 (sym e)
-      apart n (inl (step _ d)) = further n (way-forward (closed x ix) d)
-      apart n (inr d) = nearer n (way-forward iz d)
+      apart n (inl (step _ d)) = further n (route-forward (closed x ix) d)
+      apart n (inr d) = nearer n (route-forward iz d)
 
       from-p : x ≡ p → (f p ≡ z) ⊎ Before (suc p) (f p) z → ⊥
       from-p e (inl k) = inside-ends b .1 (sym k ∙ ap f (sym e))
       from-p e (inr k) = passed-from-end (rw e at b) k
 
-      go : (x ≡ p) ⊎ (x ≡ p → ⊥) → Way f p z (f p) → ⊥
-      go (inl e) d = from-p e (way-forward (closed p ip) d)
-      go (inr n) d = apart n (one-way (ring-way x ix ox) d)
+      go : (x ≡ p) ⊎ (x ≡ p → ⊥) → Route f p z (f p) → ⊥
+      go (inl e) d = from-p e (route-forward (closed p ip) d)
+      go (inr n) d = apart n (one-route (ring-route x ix ox) d)

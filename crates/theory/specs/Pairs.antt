@@ -22,7 +22,7 @@ use Rattle.laws.specs.Accepted.{member-accepts}
 -- The statement
 
 -- the test of x is ended by a pair: the last one taken skips x, none before it does, and none after it is taken
-pub record Ended (x : ℕ) (ps : List Pair) : Type 0 where
+pub record EndedByPair (x : ℕ) (ps : List Pair) : Type 0 where
   pub before : List Pair
   pub last : Pair
   pub after : List Pair
@@ -48,9 +48,9 @@ abbrev pub ToTheEnd : List ℕ → ℕ → Type 0
 ToTheEnd ws n = (principal (membersIn ws) n ≡ true) ⊎ OnlyLast n (pairs (membersIn ws))
 
 -- the test of the member n: what it answers, where it ends, and when it takes members × r pairs
-pub record Tested (ws : List ℕ) (n : ℕ) : Type 0 where
+pub record PrincipalTest (ws : List ℕ) (n : ℕ) : Type 0 where
   pub answers : principalAnswer ws n ≡ accepted (bit (principal (membersIn ws) n) ∷ pairsTaken ws n ∷ [])
-  pub ends : principal (membersIn ws) n ≡ false → Ended n (pairs (membersIn ws))
+  pub ends : principal (membersIn ws) n ≡ false → EndedByPair n (pairs (membersIn ws))
   pub all-taken : ToTheEnd ws n → pairsTaken ws n ≡ length (membersIn ws) * tableOf ws .r
   pub only-then : pairsTaken ws n ≡ length (membersIn ws) * tableOf ws .r → ToTheEnd ws n
 
@@ -66,18 +66,26 @@ module _ (x : ℕ) where
   taken-to [] last after s h = rw s
   taken-to (p ∷ before) last after s h = let w = or-false (skippedBy x p) (any (skippedBy x) before) h in rw (w .0, taken-to before last after s (w .1))
 
-  ended : (ps : List Pair) → any (skippedBy x) ps ≡ true → Ended x ps
-  ended [] h = absurd (false≢true h)
-  ended (p ∷ ps) h = go (ended ps) (skippedBy x p) refl h
+  ended-by-pair : (ps : List Pair) → any (skippedBy x) ps ≡ true → EndedByPair x ps
+  ended-by-pair [] h = absurd (false≢true h)
+  ended-by-pair (p ∷ ps) h = go (ended-by-pair ps) (skippedBy x p) refl h
     where
-      go : (any (skippedBy x) ps ≡ true → Ended x ps) → (b : Bool) → skippedBy x p ≡ b → (b || any (skippedBy x) ps) ≡ true → Ended x (p ∷ ps)
+      go : (any (skippedBy x) ps ≡ true → EndedByPair x ps) → (b : Bool) → skippedBy x p ≡ b → (b || any (skippedBy x) ps) ≡ true → EndedByPair x (p ∷ ps)
       go ih true e k = record { before = []; last = p; after = ps; in-order = refl; are-taken = rw e; skips = e; none-earlier = refl }
       go ih false e k =
           let w = ih k in
-          record { before = p ∷ w .before; last = w .last; after = w .after; in-order = ap (λ (l : List Pair). p ∷ l) (w .in-order); are-taken = rw e (ap (λ (l : List Pair). p ∷ l) (w .are-taken)); skips = w .skips; none-earlier = rw (e, w .none-earlier) }
+          record {
+            before = p ∷ w .before;
+            last = w .last;
+            after = w .after;
+            in-order = ap (λ (l : List Pair). p ∷ l) (w .in-order);
+            are-taken = rw e (ap (λ (l : List Pair). p ∷ l) (w .are-taken));
+            skips = w .skips;
+            none-earlier = rw (e, w .none-earlier);
+          }
 
   -- no pair is left after the last one taken
-  only-last : (ps : List Pair) → length (taken x ps) ≡ length ps → Ended x ps → OnlyLast x ps
+  only-last : (ps : List Pair) → length (taken x ps) ≡ length ps → EndedByPair x ps → OnlyLast x ps
   only-last ps h w = go (w .after) (w .in-order)
     where
       go : (after : List Pair) → ps ≡ w .before ++ (w .last ∷ after) → OnlyLast x ps
@@ -94,7 +102,8 @@ module _ (ws : List ℕ) (n : ℕ) (f : wellFormed ws ≡ true) where
 
   to-the-end : ToTheEnd ws n → pairsTaken ws n ≡ length ms * tableOf ws .r
   to-the-end (inl p) = ap length (taken-whole n (pairs ms) (not-true _ (no-pair n ms ∙ p))) ∙ all-pairs
-  to-the-end (inr o) = ap (λ (l : List Pair). length (taken n l)) (o .in-order) ∙ (ap length (taken-to n (o .others) (o .last) [] (o .skips) (o .none-else)) ∙ (sym (ap length (o .in-order)) ∙ all-pairs))
+  to-the-end (inr o) = ap (λ (l : List Pair). length (taken n l)) (o .in-order)
+      ∙ (ap length (taken-to n (o .others) (o .last) [] (o .skips) (o .none-else)) ∙ (sym (ap length (o .in-order)) ∙ all-pairs))
 
   -- some pair skips a member that is no principal
   some-pair : principal ms n ≡ false → any (skippedBy n) (pairs ms) ≡ true
@@ -105,15 +114,15 @@ module _ (ws : List ℕ) (n : ℕ) (f : wellFormed ws ≡ true) where
     where
       go : (b : Bool) → principal ms n ≡ b → ToTheEnd ws n
       go true e = inl e
-      go false e = inr (only-last n (pairs ms) (h ∙ sym all-pairs) (ended n (pairs ms) (some-pair e)))
+      go false e = inr (only-last n (pairs ms) (h ∙ sym all-pairs) (ended-by-pair n (pairs ms) (some-pair e)))
 
   -- every member of every well-formed table is tested so
-  pub principal-tested : live ms n ≡ true → Tested ws n
+  pub principal-tested : live ms n ≡ true → PrincipalTest ws n
   unfolding principalAnswer
   principal-tested l =
       record {
         answers = rw (member-accepts ws n f l, taken-tells n (pairs ms), no-pair n ms);
-        ends = λ h. ended n (pairs ms) (some-pair h);
+        ends = λ h. ended-by-pair n (pairs ms) (some-pair h);
         all-taken = to-the-end;
         only-then = only-there;
       }

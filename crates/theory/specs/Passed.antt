@@ -25,11 +25,11 @@ use Rattle.laws.specs.Tables.{wellFormed-facts}
 use Rattle.laws.specs.Verdicts.{verdict-ideal}
 use Rattle.theory.specs.Entries.{firstLive-in}
 use Rattle.theory.specs.Lookup.{passedOn, Answered, lookupAnswer-answers}
-use Rattle.theory.specs.Owners.{Finds}
+use Rattle.theory.specs.KeyOwners.{Finds}
 use Rattle.theory.specs.Held.{ideal-found}
 use Rattle.theory.specs.Runs.{Good, good-kept}
 use Rattle.theory.specs.Rounds.{AllCalm, calm-round}
-use Rattle.theory.specs.Settled.{round-table}
+use Rattle.theory.specs.BoundProof.{round-table}
 
 -- What a search tells, of every list; of a member's list the entry found is its best successor
 

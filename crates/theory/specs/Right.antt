@@ -74,7 +74,8 @@ module _ (xs : List ℕ) (rise : Rising xs) (some : 1 ≤ length xs) (pr : ℕ �
         head x j (inl e) = rw e (ap (λ (l : List ℕ). getD l 0 0) list-own)
         head x j (inr d) = ap (λ (l : List ℕ). getD l 0 0) (list-other x d) ∙ v .first x j
 
-        entries : (k : ℕ) → k ≤ r → ((j : ℕ) → suc j ≤ k → suc j ≤ r → take (suc j) (listOf (afterTurn n T) n) ≡ nextUps (suc j) xs n) → (x : ℕ) → In x xs → (x ≡ n) ⊎ (x ≡ n → ⊥) → take k (listOf T x) ≡ nextUps k xs x → take k (listOf (afterTurn n T) x) ≡ nextUps k xs x
+        entries : (k : ℕ) → k ≤ r → ((j : ℕ) → suc j ≤ k → suc j ≤ r → take (suc j) (listOf (afterTurn n T) n) ≡ nextUps (suc j) xs n) → (x : ℕ) → In x xs
+            → (x ≡ n) ⊎ (x ≡ n → ⊥) → take k (listOf T x) ≡ nextUps k xs x → take k (listOf (afterTurn n T) x) ≡ nextUps k xs x
         entries zero le f x j e q = refl
         entries (suc k) le f x j (inl e) q = rw e (f k (omega arith) le)
         entries (suc k) le f x j (inr d) q = other (suc k) x d q
@@ -82,7 +83,8 @@ module _ (xs : List ℕ) (rise : Rising xs) (some : 1 ≤ length xs) (pr : ℕ �
   -- a round more, an entry more
   pub right-round : (k : ℕ) (T : Table) → suc k ≤ r → Right k T → Right (suc k) (afterRound T)
   right-round k T le v =
-      let g = round-gives xs (Right k) (λ x U. take (suc k) (listOf U x) ≡ nextUps (suc k) xs x) (λ n U i u. kept-turn k n U i u (omega arith)) (λ n U i u. own k n U i u k (omega arith) le) (λ n x U i j d u e. other k n U i u (suc k) x d e) T (v .all .common .is-ids) v in
+      let g = round-gives xs (Right k) (λ x U. take (suc k) (listOf U x) ≡ nextUps (suc k) xs x) (λ n U i u. kept-turn k n U i u (omega arith))
+      (λ n U i u. own k n U i u k (omega arith) le) (λ n x U i j d u e. other k n U i u (suc k) x d e) T (v .all .common .is-ids) v in
       record { all = g .0 .all; first = g .0 .first; lists = g .1 }
 
   pub rest-round : (T : Table) → Right r T → Right r (afterRound T)
@@ -118,6 +120,7 @@ module _ (xs : List ℕ) (rise : Rising xs) (some : 1 ≤ length xs) (pr : ℕ �
           let ix : In (m .id) xs = rw (c .is-ids) at (in-ids i) in
           let q = named-in (T .members) (rising-nodup (ids (T .members)) (c .kept .formed .ids-rising)) i in
           let none : m .pending ≡ 0 = omega (arith, f .pending-bit, eqb-false (m .pending) 1 (subst (λ (u : Member). isPending u ≡ false) q (v .all .calm (m .id) ix .quiet))) in
-          let list : m .successors ≡ nextUps r xs (m .id) = sym (take-all r (m .successors) (omega (arith, f .list-length, c .is-r))) ∙ subst (λ (u : Member). take r (u .successors) ≡ nextUps r xs (m .id)) q (v .lists (m .id) ix) in
+          let list : m .successors ≡ nextUps r xs (m .id) = sym (take-all r (m .successors) (omega (arith, f .list-length, c .is-r)))
+          ∙ subst (λ (u : Member). take r (u .successors) ≡ nextUps r xs (m .id)) q (v .lists (m .id) ix) in
           let down : m .predecessor ≡ nextDown xs (m .id) = subst (λ (u : Member). u .predecessor ≡ nextDown xs (m .id)) q (right-predecessor r T v (m .id) ix) in
           λ k. record { id = m .id; predecessor = down k; pending = none k; candidate = f .no-candidate none k; successors = list k }

@@ -105,7 +105,11 @@ module _ (n : ℕ) where
     turned = go (c .met)
       where
         go : Met T n (succOf T n) → Turned T (afterTurn n T) n
-        go (by-own e) = record { next = succOf T n; list = ap (λ (X : Table). named (X .members) n .successors) (turn-same e) ∙ last-list T k i ∙ ap (λ (x : Member). x .successors) (same-record e); which = inl (e, refl) }
+        go (by-own e) = record {
+          next = succOf T n;
+          list = ap (λ (X : Table). named (X .members) n .successors) (turn-same e) ∙ last-list T k i ∙ ap (λ (x : Member). x .successors) (same-record e);
+          which = inl (e, refl);
+        }
         go (by-nearer j h) = record { next = predOf T (succOf T n); list = nearer-list j h; which = inr (refl, j, h) }
 
 -- Rounds: xs are the members; the turns keep the invariant; each gives its own member the property, which the turns of others leave

@@ -39,10 +39,16 @@ fits : (ws : List ℕ) → Good ws → size (tableOf ws) ≤ length ws
 fits ws g = wellFormed-facts ws (g .well-formed) .fits
 
 pub written-good : (T : Table) (ws : List ℕ) → Kept T → size T ≤ length ws → Good (written T ws)
-written-good T ws k h = record { well-formed = facts-wellFormed (written T ws) (written-formed T ws (k .formed) h); is-sound = ap sound (written-table T ws (formed-lists T (k .formed))) ∙ facts-sound T (k .is-sound) }
+written-good T ws k h = record {
+  well-formed = facts-wellFormed (written T ws) (written-formed T ws (k .formed) h);
+  is-sound = ap sound (written-table T ws (formed-lists T (k .formed))) ∙ facts-sound T (k .is-sound);
+}
 
 writtenFreed-good : (T : Table) (ws : List ℕ) → Kept T → size T + recordSize (T .r) ≤ length ws → Good (writtenFreed T ws)
-writtenFreed-good T ws k h = record { well-formed = facts-wellFormed (writtenFreed T ws) (writtenFreed-formed T ws (k .formed) h); is-sound = ap sound (writtenFreed-table T ws (formed-lists T (k .formed))) ∙ facts-sound T (k .is-sound) }
+writtenFreed-good T ws k h = record {
+  well-formed = facts-wellFormed (writtenFreed T ws) (writtenFreed-formed T ws (k .formed) h);
+  is-sound = ap sound (writtenFreed-table T ws (formed-lists T (k .formed))) ∙ facts-sound T (k .is-sound);
+}
 
 -- Sizes: the words that one member more, or one less, takes
 
@@ -74,7 +80,8 @@ module _ (ws : List ℕ) (g : Good ws) where
   stabilize-good n = afterwards-has Good (memberRefusal ws n) (written (stabilized n (tableOf ws)) ws) ws go g
     where
       go : memberRefusal ws n ≡ 0 → Good (written (stabilized n (tableOf ws)) ws)
-      go e = written-good (stabilized n (tableOf ws)) ws (stabilized-kept (tableOf ws) k n (member-accepted ws n e)) (replaced-size (stabilize (spaceOf (tableOf ws)) (membersIn ws) (named (membersIn ws) n)))
+      go e = written-good (stabilized n (tableOf ws)) ws (stabilized-kept (tableOf ws) k n (member-accepted ws n e))
+          (replaced-size (stabilize (spaceOf (tableOf ws)) (membersIn ws) (named (membersIn ws) n)))
 
   rectify-good : (n q : ℕ) → q < spaceOf (tableOf ws) → Good (rectifyWords ws n q)
   unfolding rectifyWords
@@ -85,7 +92,8 @@ module _ (ws : List ℕ) (g : Good ws) where
 
   without-good : (n : ℕ) → MayLeave ws n → Good (writtenFreed (without n (tableOf ws)) ws)
   without-good n a =
-      writtenFreed-good (without n (tableOf ws)) ws (without-kept (tableOf ws) k (isNamed n) (a .none-cut-off) (a .enough-left)) (omega (arith, fits ws g, without-size n (tableOf ws) (k .formed) (live-in (membersIn ws) n (a .is-member))))
+      writtenFreed-good (without n (tableOf ws)) ws (without-kept (tableOf ws) k (isNamed n) (a .none-cut-off) (a .enough-left))
+      (omega (arith, fits ws g, without-size n (tableOf ws) (k .formed) (live-in (membersIn ws) n (a .is-member))))
 
   pub leave-good : (n : ℕ) → Good (leaveWords ws n)
   unfolding leaveWords

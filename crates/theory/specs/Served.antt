@@ -17,7 +17,7 @@ use Rattle.theory.specs.Claim.{Holds}
 use Rattle.theory.specs.Static.{holds}
 use Rattle.theory.specs.Runs.{Good, good-kept, call-good, call-space, all-good}
 use Rattle.theory.specs.Turns.{rounds-last}
-use Rattle.theory.specs.Settled.{rounds-slice}
+use Rattle.theory.specs.BoundProof.{rounds-slice}
 
 -- where such a list may start: as Claim's Starts says of the seven calls
 pub record ServiceStarts (ss : List Service) (ws : List ℕ) : Type 0 where
@@ -43,7 +43,8 @@ service-good (Settle limit) ws h e g = settle-good ws limit g
 
 -- nor do they change the space
 rounds-space : (j k : ℕ) (ws : List ℕ) → Good ws → spaceOf (tableOf (afterwards k (written (afterRounds j (tableOf ws)) ws) ws)) ≡ spaceOf (tableOf ws)
-rounds-space j k ws g = afterwards-has (λ us. spaceOf (tableOf us) ≡ spaceOf (tableOf ws)) k (written (afterRounds j (tableOf ws)) ws) ws (λ e. ap spaceOf (rounds-slice j ws g .1) ∙ rounds-last j (tableOf ws) (good-kept ws g) .same-space) refl
+rounds-space j k ws g = afterwards-has (λ us. spaceOf (tableOf us) ≡ spaceOf (tableOf ws)) k (written (afterRounds j (tableOf ws)) ws) ws
+    (λ e. ap spaceOf (rounds-slice j ws g .1) ∙ rounds-last j (tableOf ws) (good-kept ws g) .same-space) refl
 
 service-space : (s : Service) (ws : List ℕ) → Good ws → spaceOf (tableOf (serviceWords ws s)) ≡ spaceOf (tableOf ws)
 unfolding serviceWords roundWords settleWords

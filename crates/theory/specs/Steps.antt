@@ -17,7 +17,7 @@ use Rattle.model.specs.Refusals.{cutsOff, tooFewPrincipals}
 use Rattle.laws.specs.Order.{true-inside, outside-false, false-outside, inner, inner-from, after-lt, after-outside}
 use Rattle.laws.specs.Lists.{or-false, implied, In, there, in-cons, in-nil, in-left, in-append, length-ids, found, live-in, in-live, every-in, any-in, in-any}
 use Rattle.laws.specs.Tables.{FormedMember, idle-formed, list-formed, pending-formed, predecessor-formed, steps-formed}
-use Rattle.laws.specs.Stabilize.{Way, takes, clears, drops, looks, settles, way-of}
+use Rattle.laws.specs.Stabilize.{StepCase, takes, clears, drops, looks, settles, step-case}
 use Rattle.laws.specs.Removed.{staying-formed, staying-sound}
 use Rattle.laws.specs.Extended.{last-in, in-take, skips-take, skips-append, skips-start}
 use Rattle.theory.specs.Keep.{Kept, Fresh, changed-sound, changed-formed, replaced-ids, replaced-changed, inserted-changed, inserted-length, inserted-rising}
@@ -104,17 +104,20 @@ module _ (T : Table) (k : Kept T) where
           formed = list-formed f _ (dropped-length z l (long i) ∙ f .list-length) (λ e j. ⊎-elim (λ q. omega (arith, q, after-lt (spaceOf T) (lastOf l) last)) (f .entries-small e) (dropped-in z l j));
           live-entry = dropped-live (T .members) z l el (k .is-sound .live-entry m i);
           candidate-inside = rw ep;
-          spares = λ q j h. dropped-skips q (m .id) z l (λ e. true≢false (sym (in-live (T .members) j) ∙ rw e el)) (outside-false (after-outside (spaceOf T) (lastOf l) q last (small q j))) (long i) (spared q h i);
+          spares = λ q j h. dropped-skips q (m .id) z l (λ e. true≢false (sym (in-live (T .members) j) ∙ rw e el))
+              (outside-false (after-outside (spaceOf T) (lastOf l) q last (small q j))) (long i) (spared q h i);
         }
 
     -- x is a member, and no principal lies between m and x; b and c are the new pending and candidate
-    adopt-fresh : (x b c : ℕ) → In x (ids (T .members)) → ((q : ℕ) → principal (T .members) q ≡ true → between (m .id) q x ≡ false) → b ≤ 1 → (b ≡ 0 → c ≡ 0) → c < spaceOf T → (not (eqb b 1) || between (m .id) c x) ≡ true → Fresh T (withPending b c (adopt x (named (T .members) x .successors) m))
+    adopt-fresh : (x b c : ℕ) → In x (ids (T .members)) → ((q : ℕ) → principal (T .members) q ≡ true → between (m .id) q x ≡ false) → b ≤ 1 → (b ≡ 0 → c ≡ 0)
+        → c < spaceOf T → (not (eqb b 1) || between (m .id) c x) ≡ true → Fresh T (withPending b c (adopt x (named (T .members) x .successors) m))
     unfolding candidateInside
     adopt-fresh x b c j out hb hc sc inside =
         let n = found (T .members) j in
         let l = named (T .members) x .successors in
         record {
-          formed = pending-formed (list-formed (right i) _ (adopted-length x l (long (n .0)) ∙ right (n .0) .list-length) (λ e p. ⊎-elim (λ q. omega (arith, q, small x j)) (right (n .0) .entries-small e) (adopted-in x l p))) b c hb hc sc;
+          formed = pending-formed (list-formed (right i) _ (adopted-length x l (long (n .0)) ∙ right (n .0) .list-length)
+              (λ e p. ⊎-elim (λ q. omega (arith, q, small x j)) (right (n .0) .entries-small e) (adopted-in x l p))) b c hb hc sc;
           live-entry = rw (in-live (T .members) j);
           candidate-inside = inside;
           spares = λ q p h. rw (out q h) (skips-take q x (length l - 1) l (rw (n .1) at (spared q h (n .0))));
@@ -154,16 +157,17 @@ module _ (T : Table) (k : Kept T) where
     offered-small : In (successor m) (ids (T .members)) → offered (T .members) m < spaceOf T
     offered-small j = right (found (T .members) j .0) .predecessor-small
 
-    -- one stabilize step, whichever of its five ways
+    -- one stabilize step, whichever of its five cases
     pub stabilize-fresh : Fresh T (stabilize (spaceOf T) (T .members) m)
-    stabilize-fresh = go (way-of (spaceOf T) (T .members) m)
+    stabilize-fresh = go (step-case (spaceOf T) (T .members) m)
       where
-        go : {l : List ℕ} {u : Member} → Way (spaceOf T) (T .members) m l u → Fresh T u
+        go : {l : List ℕ} {u : Member} → StepCase (spaceOf T) (T .members) m l u → Fresh T u
         go (takes p l) = adopt-fresh (m .candidate) 0 0 (live-in (T .members) (m .candidate) l) (candidate-spares p) (omega arith) (λ q. refl) zero-small refl
         go (clears p l) = clear-fresh
         go (drops p l) = drop-fresh p l
         go (looks p l b) = let j = live-in (T .members) (successor m) l in adopt-fresh (successor m) 1 (offered (T .members) m) j successor-spares (omega arith) (omega arith) (offered-small j) b
-        go (settles p l b) = adopt-fresh (successor m) (m .pending) (m .candidate) (live-in (T .members) (successor m) l) successor-spares (right i .pending-bit) (right i .no-candidate) (right i .candidate-small) (rw p)
+        go (settles p l b) = adopt-fresh (successor m) (m .pending) (m .candidate) (live-in (T .members) (successor m) l) successor-spares
+            (right i .pending-bit) (right i .no-candidate) (right i .candidate-small) (rw p)
 
   -- the joining j lies between p and its first entry, so p's list skips no principal from j on either
   pub joiner-fresh : (j p : ℕ) → j < spaceOf T → In p (ids (T .members)) → between p j (successor (named (T .members) p)) ≡ true → Fresh T (joiner (T .members) j p)
@@ -191,7 +195,8 @@ module _ (T : Table) (k : Kept T) where
       let few : length ns ≤ 256 = omega (arith, length-ids ns, ap length (replaced-ids v (T .members)), length-ids (T .members), k .formed .count-high) in
       record { formed = changed-formed T v ns (k .formed) (f .formed) c few (rw (replaced-ids v (T .members)) (k .formed .ids-rising)); is-sound = changed-sound T v ns (k .is-sound) f c }
 
-  pub joined-kept : (j p : ℕ) → j < spaceOf T → live (T .members) j ≡ false → live (T .members) p ≡ true → between p j (successor (named (T .members) p)) ≡ true → length (T .members) < 256 → Kept (joined j p T)
+  pub joined-kept : (j p : ℕ) → j < spaceOf T → live (T .members) j ≡ false → live (T .members) p ≡ true
+      → between p j (successor (named (T .members) p)) ≡ true → length (T .members) < 256 → Kept (joined j p T)
   joined-kept j p hj ej ep b few =
       let v = joiner (T .members) j p in
       let ns = inserted v (T .members) in

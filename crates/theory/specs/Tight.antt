@@ -10,7 +10,7 @@ use Rattle.model.specs.Ring.{sound, candidateInside, ideal, idealMember, verdic
 use Rattle.model.specs.Steps.{stabilizeFromSuccessor, stabilizeFromPredecessor, stabilize, stabilizeReply, nextStep, renews}
 use Rattle.model.specs.Settle.{delivered, lastStep, finished, afterTurn, afterRound, afterRounds}
 use Rattle.theory.specs.Bound.{rounds}
-use Rattle.theory.specs.Settled.{after-rounds}
+use Rattle.theory.specs.BoundProof.{after-rounds}
 
 -- a slice with a sound table of lists of r entries that s - 2 rounds leave with verdict 1
 pub record Late (r : ℕ) : Type 0 where
@@ -41,17 +41,31 @@ unfolding right sound candidateInside between wellFormed formed formedMember spa
 five-right = (refl, refl)
 
 two-rounds : verdict (afterRounds 2 four) ≡ 1
-unfolding verdict sound ideal idealMember candidateInside between after stabilize stabilizeFromSuccessor stabilizeFromPredecessor stabilizeReply nextStep renews delivered lastStep finished afterTurn afterRound space
+unfolding verdict sound ideal idealMember candidateInside between after stabilize stabilizeFromSuccessor stabilizeFromPredecessor stabilizeReply nextStep renews
+    delivered lastStep finished afterTurn afterRound space
 two-rounds = refl
 
 three-rounds : verdict (afterRounds 3 five) ≡ 1
-unfolding verdict sound ideal idealMember candidateInside between after stabilize stabilizeFromSuccessor stabilizeFromPredecessor stabilizeReply nextStep renews delivered lastStep finished afterTurn afterRound space
+unfolding verdict sound ideal idealMember candidateInside between after stabilize stabilizeFromSuccessor stabilizeFromPredecessor stabilizeReply nextStep renews
+    delivered lastStep finished afterTurn afterRound space
 three-rounds = refl
 
 pub late-1 : Late 1
 unfolding right
-late-1 = record { slice = wordsOf four; has-r = refl; well-formed = four-right .0; is-sound = four-right .1; not-yet = ap verdict (after-rounds 2 (wordsOf four) (record { well-formed = four-right .0; is-sound = four-right .1 }) .1) ∙ two-rounds }
+late-1 = record {
+  slice = wordsOf four;
+  has-r = refl;
+  well-formed = four-right .0;
+  is-sound = four-right .1;
+  not-yet = ap verdict (after-rounds 2 (wordsOf four) (record { well-formed = four-right .0; is-sound = four-right .1 }) .1) ∙ two-rounds;
+}
 
 pub late-2 : Late 2
 unfolding right
-late-2 = record { slice = wordsOf five; has-r = refl; well-formed = five-right .0; is-sound = five-right .1; not-yet = ap verdict (after-rounds 3 (wordsOf five) (record { well-formed = five-right .0; is-sound = five-right .1 }) .1) ∙ three-rounds }
+late-2 = record {
+  slice = wordsOf five;
+  has-r = refl;
+  well-formed = five-right .0;
+  is-sound = five-right .1;
+  not-yet = ap verdict (after-rounds 3 (wordsOf five) (record { well-formed = five-right .0; is-sound = five-right .1 }) .1) ∙ three-rounds;
+}

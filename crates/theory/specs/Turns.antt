@@ -50,7 +50,13 @@ pub lasts-none : (T : Table) → Kept T → Lasts T T
 lasts-none T k = record { kept = k; same-r = refl; same-space = refl; same-ids = refl; principals-stay = λ q i h. h }
 
 pub lasts-trans : {T U X : Table} → Lasts T U → Lasts U X → Lasts T X
-lasts-trans a b = record { kept = b .kept; same-r = b .same-r ∙ a .same-r; same-space = b .same-space ∙ a .same-space; same-ids = b .same-ids ∙ a .same-ids; principals-stay = λ q i h. b .principals-stay q (rw (a .same-ids) i) (a .principals-stay q i h) }
+lasts-trans a b = record {
+  kept = b .kept;
+  same-r = b .same-r ∙ a .same-r;
+  same-space = b .same-space ∙ a .same-space;
+  same-ids = b .same-ids ∙ a .same-ids;
+  principals-stay = λ q i h. b .principals-stay q (rw (a .same-ids) i) (a .principals-stay q i h);
+}
 
 -- and its size
 pub same-size : {T U : Table} → Lasts T U → size U ≡ size T
@@ -87,7 +93,8 @@ rectify-predecessor : (ms : List Member) (q x : ℕ) (m : Member) → m .id ≡ 
 unfolding renews
 rectify-predecessor ms q x m e = go (between (m .predecessor) q (m .id)) refl (live ms (m .predecessor)) refl
   where
-    go : (a : Bool) → between (m .predecessor) q (m .id) ≡ a → (b : Bool) → live ms (m .predecessor) ≡ b → Predecessor ms q x (m .predecessor) ((if a || not b then withPredecessor q m else m) .predecessor)
+    go : (a : Bool) → between (m .predecessor) q (m .id) ≡ a → (b : Bool) → live ms (m .predecessor) ≡ b
+        → Predecessor ms q x (m .predecessor) ((if a || not b then withPredecessor q m else m) .predecessor)
     go true ea b eb = nearer refl (rw e at (true-inside (m .predecessor) q (m .id) ea))
     go false ea true eb = stays refl
     go false ea false eb = dead refl eb
@@ -124,7 +131,13 @@ module _ (T : Table) (k : Kept T) (n : ℕ) (i : In n (ids (T .members))) where
       let ms = T .members in
       let v = stabilize (spaceOf T) ms (named ms n) in
       record {
-        lasts = record { kept = stabilized-kept T k n (in-live ms i); same-r = refl; same-space = refl; same-ids = replaced-ids v ms; principals-stay = changed-principal T v (replaced v ms) (stabilize-fresh T k (named ms n) (found ms i .0)) (replaced-changed v ms) };
+        lasts = record {
+          kept = stabilized-kept T k n (in-live ms i);
+          same-r = refl;
+          same-space = refl;
+          same-ids = replaced-ids v ms;
+          principals-stay = changed-principal T v (replaced v ms) (stabilize-fresh T k (named ms n) (found ms i .0)) (replaced-changed v ms);
+        };
         others = λ x d. rw (elsewhere v stepped-id x d) (record { list = refl; is-pending = refl });
         predecessors = at-place v stepped-id (λ x m. Predecessor ms n x (named ms x .predecessor) (m .predecessor)) (stays (same-predecessor ms (named ms n) (spaceOf T))) (λ x d. stays refl);
       }
@@ -139,14 +152,21 @@ module _ (T : Table) (k : Kept T) (n : ℕ) (i : In n (ids (T .members))) where
 
   -- it changes no list
   pub noticed-list : (q x : ℕ) → SameList (named (rectified n q T .members) x) (named (T .members) x)
-  noticed-list q = at-place (rectifyIn (T .members) q (named (T .members) n)) (noticed-id q) (λ x m. SameList m (named (T .members) x)) (rectify-list (T .members) q (named (T .members) n)) (λ x d. record { list = refl; is-pending = refl })
+  noticed-list q = at-place (rectifyIn (T .members) q (named (T .members) n)) (noticed-id q) (λ x m. SameList m (named (T .members) x))
+      (rectify-list (T .members) q (named (T .members) n)) (λ x d. record { list = refl; is-pending = refl })
 
   pub acted-notice : (q : ℕ) → q < spaceOf T → Acted q T (rectified n q T)
   acted-notice q hq =
       let ms = T .members in
       let v = rectifyIn ms q (named ms n) in
       record {
-        lasts = record { kept = rectified-kept T k n q hq (in-live ms i); same-r = refl; same-space = refl; same-ids = replaced-ids v ms; principals-stay = changed-principal T v (replaced v ms) (rectify-fresh T k (named ms n) (found ms i .0) q hq) (replaced-changed v ms) };
+        lasts = record {
+          kept = rectified-kept T k n q hq (in-live ms i);
+          same-r = refl;
+          same-space = refl;
+          same-ids = replaced-ids v ms;
+          principals-stay = changed-principal T v (replaced v ms) (rectify-fresh T k (named ms n) (found ms i .0) q hq) (replaced-changed v ms);
+        };
         others = λ x d. noticed-list q x;
         predecessors = at-place v (noticed-id q) (λ x m. Predecessor ms q x (named ms x .predecessor) (m .predecessor)) (rectify-predecessor ms q n (named ms n) (found ms i .1)) (λ x d. stays refl);
       }
@@ -192,7 +212,8 @@ module _ (n : ℕ) where
   acted-until zero T k i = acted-none n T k
   acted-until (suc f) T k i = go (isDone n T) (acted-until f (stabilized n T))
     where
-      go : (b : Bool) → (Kept (stabilized n T) → In n (ids (stabilized n T .members)) → Acted n (stabilized n T) (untilDone f n (stabilized n T))) → Acted n T (if b then lastStep n T else untilDone f n (stabilized n T))
+      go : (b : Bool) → (Kept (stabilized n T) → In n (ids (stabilized n T .members)) → Acted n (stabilized n T) (untilDone f n (stabilized n T)))
+          → Acted n T (if b then lastStep n T else untilDone f n (stabilized n T))
       go true ih = acted-last T k i
       go false ih = let a = acted-step T k n i in acted-trans a (ih (a .lasts .kept) (stays-in a i))
 

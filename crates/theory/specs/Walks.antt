@@ -41,7 +41,8 @@ module _ (ms : List Member) where
   reaches-moved zero z x h = absurd (false≢true h)
   reaches-moved (suc n) z x h = go (bestSuccessor ms x) refl (reaches-moved n z) h
     where
-      go : (o : Option ℕ) → bestSuccessor ms x ≡ o → ((y : ℕ) → reaches ms n z y ≡ true → (k : ℕ) × (moved ms (suc k) y ≡ some z)) → option o false (λ y. eqb y z || reaches ms n z y) ≡ true → (k : ℕ) × (moved ms (suc k) x ≡ some z)
+      go : (o : Option ℕ) → bestSuccessor ms x ≡ o → ((y : ℕ) → reaches ms n z y ≡ true → (k : ℕ) × (moved ms (suc k) y ≡ some z))
+          → option o false (λ y. eqb y z || reaches ms n z y) ≡ true → (k : ℕ) × (moved ms (suc k) x ≡ some z)
       go none e ih k = absurd (false≢true k)
       go (some y) e ih k = sub (eqb y z) refl k
         where

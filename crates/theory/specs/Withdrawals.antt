@@ -58,8 +58,15 @@ module _ (k : ℕ) (T : Table) (s : Spare k T) where
   enough-principals : tooFewPrincipals T ≡ false
   unfolding tooFewPrincipals
   enough-principals =
-      let all : (q : ℕ) → In q (ids (T .members)) → principal (T .members) q ≡ true = λ q i. in-every (λ m. not (skips q (m .id) (m .successors))) (T .members) (λ m j. ap not (s .unskipped q i m j)) in
-      le-ltb (principals (T .members)) (T .r + 1) (omega (arith, s .many, length-ids (T .members), count-all (ids (T .members)), count-le (λ x. true) (principal (T .members)) (ids (T .members)) (λ q i e. all q i)))
+      let all : (q : ℕ) → In q (ids (T .members)) → principal (T .members) q ≡ true =
+      λ q i. in-every (λ m. not (skips q (m .id) (m .successors))) (T .members) (λ m j. ap not (s .unskipped q i m j)) in
+      le-ltb (principals (T .members)) (T .r + 1) (omega (
+        arith,
+        s .many,
+        length-ids (T .members),
+        count-all (ids (T .members)),
+        count-le (λ x. true) (principal (T .members)) (ids (T .members)) (λ q i e. all q i),
+      ))
 
 -- without a member it can lose one fewer: each list names that one once at most
 without-spare : (k n : ℕ) (T : Table) → Rising (ids (T .members)) → In n (ids (T .members)) → Spare (suc k) T → Spare k (without n T)
@@ -115,7 +122,8 @@ grants ws (b ∷ before) n later g nd all s =
     let e = granted ws b (length (before ++ (n ∷ later))) (g .well-formed) i s in
     let t = withdrawn-table ws b e in
     let ms : membersIn (leaveWords ws b) ≡ staying (isNamed b) (membersIn ws) = ap (λ (T : Table). T .members) t in
-    let c : length (membersIn (leaveWords ws b)) - length before - 1 ≡ length (membersIn ws) - suc (length before) - 1 = omega (arith, without-length b (membersIn ws) (rising-in ws (g .well-formed)) i, ap length ms) in
+    let c : length (membersIn (leaveWords ws b)) - length before - 1 ≡ length (membersIn ws) - suc (length before) - 1 =
+    omega (arith, without-length b (membersIn ws) (rising-in ws (g .well-formed)) i, ap length ms) in
     rw (← c) (grants (leaveWords ws b) before n later (leave-good ws g b) (nd .1)
     (λ x j. rw ms (without-keeps b x (membersIn ws) (all x (there j)) (λ q. nd .0 (rw q at j))))
     (rw t (without-spare _ b (tableOf ws) (rising-in ws (g .well-formed)) i s)))
@@ -125,5 +133,7 @@ withdrawals-granted ws ns m before n later e =
     let v = verdict-facts (tableOf ws) (m .verdict-2) in
     let fo = wellFormed-facts ws (m .well-formed) .table in
     let so = sound-facts (tableOf ws) (v .0) in
-    let s = ideal-spare (length ns) (tableOf ws) fo so (ideal-facts (tableOf ws) (v .1)) (omega (arith, m .few, fo .r-low)) (omega (arith, m .enough-left, so .enough, count-length (principal (membersIn ws)) (ids (membersIn ws)), length-ids (membersIn ws))) in
-    grants ws before n later (record { well-formed = m .well-formed; is-sound = v .0 }) (rw e at (m .different)) (λ x i. live-in (membersIn ws) x (every-in (live (membersIn ws)) (rw e at (m .are-members)) i)) (rw e at s)
+    let s = ideal-spare (length ns) (tableOf ws) fo so (ideal-facts (tableOf ws) (v .1)) (omega (arith, m .few, fo .r-low))
+    (omega (arith, m .enough-left, so .enough, count-length (principal (membersIn ws)) (ids (membersIn ws)), length-ids (membersIn ws))) in
+    grants ws before n later (record { well-formed = m .well-formed; is-sound = v .0 }) (rw e at (m .different))
+    (λ x i. live-in (membersIn ws) x (every-in (live (membersIn ws)) (rw e at (m .are-members)) i)) (rw e at s)

@@ -2,7 +2,7 @@
 ghost use Prim.Native.Nat.{_+_, _≤_};
 ghost use lib.ListN.{length};
 ghost use Rattle.script.specs.Text.{stepText, noticeText, toldText, fieldsText};
-ghost use Rattle.put.specs.Written.{Wrote};
+ghost use Rattle.put.specs.Wrote.{Wrote};
 use script::Word;
 
 // The word that tells a stabilize step's reply.

@@ -13,14 +13,14 @@ use Rattle.laws.specs.Words.{written-table, written-length, written-same, writt
 use Rattle.laws.specs.Tables.{wellFormed-facts, formed-lists}
 use Rattle.theory.specs.Runs.{Good, good-kept, written-good}
 use Rattle.theory.specs.Turns.{Lasts, lasts-none, lasts-trans, same-size}
-use Rattle.table.specs.Formed.{Formed}
-use Rattle.table.specs.Search.{Stands}
-use Rattle.table.proofs.Formed.{formed}
+use Rattle.table.specs.FormedWords.{FormedWords}
+use Rattle.table.specs.Located.{Stands}
+use Rattle.table.proofs.WellFormed.{formed-words}
 use Rattle.table.proofs.Members.{ids-count}
 use Rattle.turns.specs.Lasting.{Lasting}
 
-pub good-formed : {ws : List ℕ} → Good ws → Formed ws
-good-formed {ws} g = formed ws (g .well-formed)
+pub good-formed : {ws : List ℕ} → Good ws → FormedWords ws
+good-formed {ws} g = formed-words ws (g .well-formed)
 
 -- a member that stands somewhere is one
 pub stands-in : {ws : List ℕ} {k n : ℕ} → Stands ws k n → In n (ids (membersIn ws))

@@ -17,12 +17,12 @@ use Rattle.model.specs.Settle.{delivered, nextReply, isDone, lastStep}
 use Rattle.model.specs.Calls.{written}
 use Rattle.theory.specs.Runs.{Good, good-kept}
 use Rattle.theory.specs.Turns.{acted-step, acted-delivered}
-use Rattle.step.specs.Answers.{answerOf}
-use Rattle.step.specs.declared.Step.{Step}
-use Rattle.step.specs.declared.Step.the-variants.{Again, Look, Done, Declined}
-use Rattle.step.proofs.Step as S
-use Rattle.table.specs.Formed.{Formed}
-use Rattle.table.specs.Search.{Stands}
+use Rattle.answers.specs.Step.{answerOf}
+use Rattle.answers.specs.declared.step.Step.{Step}
+use Rattle.answers.specs.declared.step.Step.the-variants.{Again, Look, Done, Declined}
+use Rattle.answers.proofs.step.Step as S
+use Rattle.table.specs.FormedWords.{FormedWords}
+use Rattle.table.specs.Located.{Stands}
 use Rattle.table.proofs.Place.{same-words, stands-live}
 use Rattle.turns.proofs.Lasting.{stands-in, lasting-none, stands-still, written-still, Next, lasting-next}
 
@@ -45,7 +45,7 @@ module _ (q h : ℕ) (T : Table) where
   unfolding delivered
   to-member l = rw l
 
-module _ (ws : List ℕ) (f : Formed ws) where
+module _ (ws : List ℕ) (f : FormedWords ws) where
   -- a notice of q to h: lost, or taken where h stands
   pub notice-lost : (q h : ℕ) → live (membersIn ws) h ≡ false → ws ≡ written (delivered q h (tableOf ws)) ws
   notice-lost q h l = same-words ws f ∙ ap (λ (T : Table). written T ws) (to-none q h (tableOf ws) l)

@@ -16,7 +16,7 @@ use Rattle.model.specs.Calls.{written}
 use Rattle.theory.specs.Runs.{Good, good-kept}
 use Rattle.theory.specs.Calm.{pending-done}
 use Rattle.theory.specs.Turns.{acted-step, acted-finished, acted-until, acted-turn}
-use Rattle.table.specs.Search.{Stands}
+use Rattle.table.specs.Located.{Stands}
 use Rattle.table.proofs.Members.{ids-count}
 use Rattle.table.proofs.Place.{same-words, own-place}
 use Rattle.turns.specs.Lasting.{Lasting}
@@ -75,7 +75,8 @@ module _ {ws us : List ℕ} {k n f left : ℕ} (g : Good ws) (s : Stands ws k n)
     until-done d =
         let i = stands-in (stands-still g (u .follows) s) in
         let l = acted-until n left (tableOf us) (u .follows .lasts .kept) i .lasts in
-        e ∙ (ap (λ (T : Table). written T us) (until-last n left (left - 1) (tableOf us) one-left d) ∙ (written-still g (u .follows) (untilDone left n (tableOf us)) l ∙ ap (λ (T : Table). written T ws) (u .rest)))
+        e ∙ (ap (λ (T : Table). written T us) (until-last n left (left - 1) (tableOf us) one-left d)
+        ∙ (written-still g (u .follows) (untilDone left n (tableOf us)) l ∙ ap (λ (T : Table). written T ws) (u .rest)))
 
     pub until-left : isDone n (tableOf us) ≡ false → Until n f ws (left - 1) vs
     until-left d =
@@ -95,7 +96,9 @@ module _ {ws us : List ℕ} {k n : ℕ} (g : Good ws) (s : Stands ws k n) (e : u
   turned q =
       let o = finished-next .follows in
       let l = acted-until n (suc (tableOf us .r)) (tableOf us) (o .lasts .kept) (stands-in (stands-still g o s)) .lasts in
-      q ∙ (written-still g o (untilDone (suc (tableOf us .r)) n (tableOf us)) l ∙ ap (λ (T : Table). written T ws) (ap (λ (r : ℕ). untilDone (suc r) n (tableOf us)) (o .lasts .same-r) ∙ ap (untilDone (suc (tableOf ws .r)) n) (finished-next .has)))
+      q ∙ (written-still g o (untilDone (suc (tableOf us .r)) n (tableOf us)) l
+      ∙ ap (λ (T : Table). written T ws) (ap (λ (r : ℕ). untilDone (suc r) n (tableOf us)) (o .lasts .same-r)
+      ∙ ap (untilDone (suc (tableOf ws .r)) n) (finished-next .has)))
 
 -- A round: the turns of the members from place k on, from us, are the round from ws
 pub record Round (ws : List ℕ) (k : ℕ) (us : List ℕ) : Type 0 where
@@ -117,8 +120,11 @@ module _ {ws us : List ℕ} {k : ℕ} (g : Good ws) (u : Round ws k us) where
       let n : ℕ = getD (ids (membersIn us)) k 0 in
       let i = stands-in (own-place us k (omega (arith, same-count g (u .follows)))) in
       let x = lasting-next g (u .follows) (afterTurn n (tableOf us)) (acted-turn n (tableOf us) (u .follows .lasts .kept) i .lasts) e in
-      let d : drop k (ids (membersIn ws)) ≡ n ∷ drop (suc k) (ids (membersIn ws)) = drop-cons (ids (membersIn ws)) k 0 (omega (arith, ids-count ws)) ∙ ap (λ (xs : List ℕ). getD xs k 0 ∷ drop (suc k) (ids (membersIn ws))) (sym (u .follows .lasts .same-ids)) in
+      let d : drop k (ids (membersIn ws)) ≡ n ∷ drop (suc k) (ids (membersIn ws)) =
+      drop-cons (ids (membersIn ws)) k 0 (omega (arith, ids-count ws))
+      ∙ ap (λ (xs : List ℕ). getD xs k 0 ∷ drop (suc k) (ids (membersIn ws))) (sym (u .follows .lasts .same-ids)) in
       record {
         follows = x .follows;
-        rest = ap (λ (i : ℕ). afterTurns (drop i (ids (membersIn ws))) (tableOf vs)) q ∙ (ap (afterTurns (drop (suc k) (ids (membersIn ws)))) (x .has) ∙ (ap (λ (ns : List ℕ). afterTurns ns (tableOf us)) (sym d) ∙ u .rest));
+        rest = ap (λ (i : ℕ). afterTurns (drop i (ids (membersIn ws))) (tableOf vs)) q
+            ∙ (ap (afterTurns (drop (suc k) (ids (membersIn ws)))) (x .has) ∙ (ap (λ (ns : List ℕ). afterTurns ns (tableOf us)) (sym d) ∙ u .rest));
       }

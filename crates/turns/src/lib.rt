@@ -9,17 +9,17 @@ ghost use Rattle.model.specs.Steps.{stabilized};
 ghost use Rattle.model.specs.Settle.{delivered, isDone, lastStep, finished, untilDone, afterTurn, afterRound};
 ghost use Rattle.model.specs.Calls.{written};
 ghost use Rattle.theory.specs.Runs.{Good};
-ghost use Rattle.table.specs.Formed.{Formed};
-ghost use Rattle.table.specs.Search.{Stands};
-use step::Step;
-use table::Search;
+ghost use Rattle.table.specs.FormedWords.{FormedWords};
+ghost use Rattle.table.specs.Located.{Stands};
+use answers::step::Step;
+use table::Located;
 
 // The notice of q is delivered to h, which rectifies; a notice to a non-member is lost.
 fn deliver(t: &mut [u32], h: u32, q: u32)
-    requires { ⌜ Formed (now t) ⌝ }
+    requires { ⌜ FormedWords (now t) ⌝ }
     ensures { λ _. ⌜ now (t .exit) ≡ written (delivered q h (tableOf (now (t .entry)))) (now (t .entry)) ⌝ }
 {
-    let Search::Here(k) = table::find(t, h) else {
+    let Located::Here(k) = table::locate(t, h) else {
         return;
     };
     rectify_at::rectify_at(t, k, q);
@@ -29,7 +29,9 @@ fn deliver(t: &mut [u32], h: u32, q: u32)
 fn step(t: &mut [u32], k: usize, n: u32) -> bool
     requires { ⌜ Good (now t) ⌝ }
     requires { ⌜ Stands (now t) k n ⌝ }
-    ensures { λ b. ⌜ (b ≡ isDone n (tableOf (now (t .entry)))) × (now (t .exit) ≡ written (if isDone n (tableOf (now (t .entry))) then lastStep n (tableOf (now (t .entry))) else stabilized n (tableOf (now (t .entry)))) (now (t .entry))) ⌝ }
+    ensures { λ b. ⌜ (b ≡ isDone n (tableOf (now (t .entry))))
+        × (now (t .exit) ≡ written (if isDone n (tableOf (now (t .entry))) then lastStep n (tableOf (now (t .entry)))
+        else stabilized n (tableOf (now (t .entry)))) (now (t .entry))) ⌝ }
 {
     let Step::Done(h) = stabilize_at::stabilize_at(t, k) else {
         return false;
@@ -40,11 +42,11 @@ fn step(t: &mut [u32], k: usize, n: u32) -> bool
 
 // Has the member at place k a pending candidate?
 fn is_pending(t: &[u32], k: usize) -> bool
-    requires { ⌜ Formed (now t) ⌝ }
+    requires { ⌜ FormedWords (now t) ⌝ }
     requires { ⌜ k < getD (now t) 1 0 ⌝ }
     ensures { λ b. ⌜ b ≡ isPending (getD (membersIn (now (t .entry))) k nobody) ⌝ }
 {
-    table::word_at(t, k, 2) == 1
+    table::word_at(t, k, words::PENDING) == 1
 }
 
 // A pending step of the member n, which stands at place k, is finished, and its notice delivered.
@@ -64,7 +66,7 @@ fn until_done(t: &mut [u32], k: usize, n: u32)
     requires { ⌜ Stands (now t) k n ⌝ }
     ensures { λ _. ⌜ now (t .exit) ≡ written (untilDone (suc (tableOf (now (t .entry)) .r)) n (tableOf (now (t .entry)))) (now (t .entry)) ⌝ }
 {
-    let mut left = t[0] as usize + 1;
+    let mut left = t[words::R] as usize + 1;
     while 0 < left {
         if step(t, k, n) {
             return;
@@ -79,7 +81,7 @@ fn turn_at(t: &mut [u32], k: usize)
     requires { ⌜ k < getD (now t) 1 0 ⌝ }
     ensures { λ _. ⌜ now (t .exit) ≡ written (afterTurn (getD (ids (membersIn (now (t .entry)))) k 0) (tableOf (now (t .entry)))) (now (t .entry)) ⌝ }
 {
-    let n = table::word_at(t, k, 0);
+    let n = table::word_at(t, k, words::ID);
     finish_pending(t, k, n);
     until_done(t, k, n);
 }
@@ -89,7 +91,7 @@ pub fn run_round(t: &mut [u32])
     requires { ⌜ Good (now t) ⌝ }
     ensures { λ _. ⌜ now (t .exit) ≡ written (afterRound (tableOf (now (t .entry)))) (now (t .entry)) ⌝ }
 {
-    let n = t[1] as usize;
+    let n = t[words::COUNT] as usize;
     let mut left = n;
     while 0 < left {
         let place = n - left;

@@ -1,4 +1,4 @@
--- The candidate of the record at the front, and one turn of the loop over candidates. Assumes nothing.
+-- The candidate of the record at the front, and one iteration of the loop over candidates. Assumes nothing.
 use Prim.Native.Nat.{ℕ, _-_, _≤_, _<_}
 use mathlib.Core.Path.{_≡_}
 use mathlib.Core.List.{List}

@@ -5,16 +5,16 @@ ghost use lib.ListN.{length};
 ghost use Rattle.model.specs.Lists.{every};
 ghost use Rattle.model.specs.Table.{recordSize, memberOf, membersOf, membersIn, tableOf};
 ghost use Rattle.model.specs.Ring.{candidateInside, principals, sound, verdict};
-ghost use Rattle.table.specs.Formed.{Formed};
-ghost use Rattle.ring.specs.Places.{BestPlaces};
+ghost use Rattle.table.specs.FormedWords.{FormedWords};
+ghost use Rattle.best_successors.specs.Places.{BestPlaces};
 
 // Lies the candidate of the record that the part holds, if one is pending, between its member and the first entry?
 fn candidate_inside(s: &[u32]) -> bool
     requires { ⌜ recordSize 1 ≤ length (now s) ⌝ }
     ensures { λ b. ⌜ ((r : ℕ) → 1 ≤ r → b ≡ candidateInside (memberOf r (now (s .entry)))) ⌝ }
 {
-    if s[2] == 1 {
-        return ident::between(s[0], s[3], s[words::LIST]);
+    if s[words::PENDING] == 1 {
+        return ident::between(s[words::ID], s[words::CANDIDATE], s[words::LIST]);
     }
     true
 }
@@ -24,7 +24,7 @@ pub fn candidates_inside(s: &[u32], r: usize, n: usize) -> bool
     requires { ⌜ (1 ≤ r) × (r ≤ 8) × (n * recordSize r ≤ length (now s)) ⌝ }
     ensures { λ b. ⌜ b ≡ every candidateInside (membersOf r n (now (s .entry))) ⌝ }
 {
-    let w = words::width(r);
+    let w = words::record_size(r);
     let mut p = s;
     let mut left = n;
     while 0 < left {
@@ -40,14 +40,14 @@ pub fn candidates_inside(s: &[u32], r: usize, n: usize) -> bool
 
 // Is a table with so many principals sound?
 pub fn is_sound(t: &[u32], best: &[u16; 256], count: usize) -> bool
-    requires { ⌜ Formed (now t) ⌝ }
+    requires { ⌜ FormedWords (now t) ⌝ }
     requires { ⌜ BestPlaces (now t) (now best) ⌝ }
     requires { ⌜ count ≡ principals (membersIn (now t)) ⌝ }
     ensures { λ b. ⌜ b ≡ sound (tableOf (now (t .entry))) ⌝ }
 {
-    let r = t[0] as usize;
-    let n = t[1] as usize;
-    if ring::all_live(t, best) {
+    let r = t[words::R] as usize;
+    let n = t[words::COUNT] as usize;
+    if best_successors::all_live(t, best) {
         if r < count {
             let s = words::records_of(t);
             return candidates_inside(s, r, n);
@@ -58,7 +58,7 @@ pub fn is_sound(t: &[u32], best: &[u16; 256], count: usize) -> bool
 
 // The verdict on a table with so many principals: 0 not sound, 1 sound, 2 sound and ideal.
 pub fn verdict_of(t: &[u32], best: &[u16; 256], count: usize) -> u32
-    requires { ⌜ Formed (now t) ⌝ }
+    requires { ⌜ FormedWords (now t) ⌝ }
     requires { ⌜ BestPlaces (now t) (now best) ⌝ }
     requires { ⌜ count ≡ principals (membersIn (now t)) ⌝ }
     ensures { λ v. ⌜ v ≡ verdict (tableOf (now (t .entry))) ⌝ }

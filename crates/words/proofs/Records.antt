@@ -19,7 +19,8 @@ pub copied-more : (i : ℕ) (l s : List ℕ) (v : ℕ) → i < length l → i < 
 copied-more i l s v hl hs e q = rw (add-one, take-suc-set l i v hl, take-suc s i 0 hs, e, q)
 
 -- `read_member`: eight entries at once, of which the first r count
-pub entries-at-once : (r : ℕ) (ws : List ℕ) → r ≤ 8 → 12 ≤ length ws → take r (getD ws 4 0 ∷ getD ws 5 0 ∷ getD ws 6 0 ∷ getD ws 7 0 ∷ getD ws 8 0 ∷ getD ws 9 0 ∷ getD ws 10 0 ∷ getD ws 11 0 ∷ []) ≡ take r (drop 4 ws)
+pub entries-at-once : (r : ℕ) (ws : List ℕ) → r ≤ 8 → 12 ≤ length ws
+    → take r (getD ws 4 0 ∷ getD ws 5 0 ∷ getD ws 6 0 ∷ getD ws 7 0 ∷ getD ws 8 0 ∷ getD ws 9 0 ∷ getD ws 10 0 ∷ getD ws 11 0 ∷ []) ≡ take r (drop 4 ws)
 entries-at-once r ws h k =
     let said : eight (drop 4 ws) ≡ getD ws 4 0 ∷ getD ws 5 0 ∷ getD ws 6 0 ∷ getD ws 7 0 ∷ getD ws 8 0 ∷ getD ws 9 0 ∷ getD ws 10 0 ∷ getD ws 11 0 ∷ [] = simp getD-drop in
     ap (take r) (sym (take-eight (drop 4 ws) (rw length-drop (omega arith)) ∙ said)) ∙ take-take r 8 (drop 4 ws) h

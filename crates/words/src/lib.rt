@@ -7,17 +7,32 @@ ghost use Rattle.model.specs.Table.{headerSize, recordSize, memberOf, recordOf}
 ghost use Rattle.member.specs.View.{view};
 use member::Member;
 
-// The words of the header: r, member count, step count.
+// The words of the header, by their places: r, member count, step count.
+pub const R: usize = 0;
+
+pub const COUNT: usize = 1;
+
+pub const STEPS: usize = 2;
+
+// How many they are.
 pub const HEADER: usize = 3;
 
-// Where a record's list starts: after identifier, predecessor, pending and candidate.
+// The words of a record, by their places: identifier, predecessor, pending, candidate, and from LIST on its list.
+pub const ID: usize = 0;
+
+pub const PREDECESSOR: usize = 1;
+
+pub const PENDING: usize = 2;
+
+pub const CANDIDATE: usize = 3;
+
 pub const LIST: usize = 4;
 
 // The words of the longest table: 256 records with lists of 8.
 pub const LONGEST: usize = HEADER + 256 * (LIST + 8);
 
 // The words of one record.
-pub fn width(r: usize) -> usize
+pub fn record_size(r: usize) -> usize
     requires { ⌜ r ≤ 255 ⌝ }
     ensures { λ w. ⌜ w ≡ recordSize r ⌝ }
 {
@@ -37,7 +52,7 @@ pub fn offset(r: usize, k: usize) -> usize
     requires { ⌜ (r ≤ 8) × (k ≤ 256) ⌝ }
     ensures { λ o. ⌜ (o ≡ headerSize + k * recordSize r) × (o ≤ headerSize + 256 * recordSize 8) ⌝ }
 {
-    HEADER + k * width(r)
+    HEADER + k * record_size(r)
 }
 
 // One member's record, read from the front of a part. Where eight entries stand there all are read at once: those after the first r never matter.
@@ -47,10 +62,10 @@ pub fn read_member(part: &[u32], r: usize) -> Member
 {
     if LIST + 8 <= part.len() {
         return Member {
-            id: part[0],
-            predecessor: part[1],
-            pending: part[2],
-            candidate: part[3],
+            id: part[ID],
+            predecessor: part[PREDECESSOR],
+            pending: part[PENDING],
+            candidate: part[CANDIDATE],
             successors: [
                 part[4],
                 part[5],
@@ -70,10 +85,10 @@ pub fn read_member(part: &[u32], r: usize) -> Member
         i += 1;
     }
     Member {
-        id: part[0],
-        predecessor: part[1],
-        pending: part[2],
-        candidate: part[3],
+        id: part[ID],
+        predecessor: part[PREDECESSOR],
+        pending: part[PENDING],
+        candidate: part[CANDIDATE],
         successors: l,
     }
 }
@@ -83,10 +98,10 @@ pub fn write_member(part: &mut [u32], m: Member, r: usize)
     requires { ⌜ (r ≤ 8) × (recordSize r ≤ length (now part)) ⌝ }
     ensures { λ _. ⌜ now (part .exit) ≡ recordOf (view r m) ++ drop (recordSize r) (now (part .entry)) ⌝ }
 {
-    part[0] = m.id;
-    part[1] = m.predecessor;
-    part[2] = m.pending;
-    part[3] = m.candidate;
+    part[ID] = m.id;
+    part[PREDECESSOR] = m.predecessor;
+    part[PENDING] = m.pending;
+    part[CANDIDATE] = m.candidate;
     let l = m.successors;
     let mut i = 0;
     while i < r {
@@ -96,25 +111,25 @@ pub fn write_member(part: &mut [u32], m: Member, r: usize)
 }
 
 // A gap of so many words is opened at the front: the used words move up, and the gap keeps its old words.
-pub fn open_gap(tail: &mut [u32], used: usize, width: usize)
-    requires { ⌜ used + width ≤ length (now tail) ⌝ }
-    ensures { λ _. ⌜ now (tail .exit) ≡ take width (now (tail .entry)) ++ (take used (now (tail .entry)) ++ drop (used + width) (now (tail .entry))) ⌝ }
+pub fn open_gap(tail: &mut [u32], used: usize, gap: usize)
+    requires { ⌜ used + gap ≤ length (now tail) ⌝ }
+    ensures { λ _. ⌜ now (tail .exit) ≡ take gap (now (tail .entry)) ++ (take used (now (tail .entry)) ++ drop (used + gap) (now (tail .entry))) ⌝ }
 {
     let mut i = used;
     while 0 < i {
         i -= 1;
-        tail[i + width] = tail[i];
+        tail[i + gap] = tail[i];
     }
 }
 
 // The words at the front are closed over: the used words after them move down, and the words freed become 0.
-pub fn close_gap(tail: &mut [u32], used: usize, width: usize)
-    requires { ⌜ (width ≤ used) × (used ≤ length (now tail)) ⌝ }
-    ensures { λ _. ⌜ now (tail .exit) ≡ drop width (take used (now (tail .entry))) ++ (replicate width 0 ++ drop used (now (tail .entry))) ⌝ }
+pub fn close_gap(tail: &mut [u32], used: usize, gap: usize)
+    requires { ⌜ (gap ≤ used) × (used ≤ length (now tail)) ⌝ }
+    ensures { λ _. ⌜ now (tail .exit) ≡ drop gap (take used (now (tail .entry))) ++ (replicate gap 0 ++ drop used (now (tail .entry))) ⌝ }
 {
-    let n = used - width;
+    let n = used - gap;
     for i in 0..n {
-        tail[i] = tail[i + width];
+        tail[i] = tail[i + gap];
     }
     for j in n..used {
         tail[j] = 0;
@@ -126,6 +141,6 @@ pub fn put_in(tail: &mut [u32], used: usize, m: Member, r: usize)
     requires { ⌜ (r ≤ 8) × (used + recordSize r ≤ length (now tail)) ⌝ }
     ensures { λ _. ⌜ now (tail .exit) ≡ recordOf (view r m) ++ (take used (now (tail .entry)) ++ drop (used + recordSize r) (now (tail .entry))) ⌝ }
 {
-    open_gap(tail, used, width(r));
+    open_gap(tail, used, record_size(r));
     write_member(tail, m, r);
 }

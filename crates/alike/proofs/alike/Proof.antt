@@ -8,7 +8,7 @@ use Rattle.model.specs.Table.{wellFormed}
 use Rattle.model.specs.Answer.{accepted}
 use Rattle.model.specs.Refusals.{alikeRefusal}
 use Rattle.model.specs.Calls.{alikeAnswer}
-use Rattle.table.proofs.Formed.{formed}
+use Rattle.table.proofs.WellFormed.{formed-words}
 use Rattle.alike.proofs.alike.Statement.{statement}
 use Rattle.alike.proofs.alike.Tie as tie
 
@@ -19,7 +19,7 @@ second : (c : tie.Then2) → wellFormed (c .before .before .before .before .befo
 second c = sym (c .before .well-formed2 .ensures) ∙ c .if2 .taken
 
 tables-alike-requires : tie.Need-tables-alike-requires
-tables-alike-requires c κs = (formed _ (first (c .before .before)), formed _ (second c))
+tables-alike-requires c κs = (formed-words _ (first (c .before .before)), formed-words _ (second c))
 
 returns : tie.Need-returns
 unfolding alikeAnswer alikeRefusal

@@ -28,8 +28,12 @@ records-alike-requires : tie.Need-records-alike-requires
 records-alike-requires c κs =
     let e = c .before .before in
     let d = e .before .before .before in
-    let s = d .before .before .before .before .before in
-    (s .pre .0 .r-low, s .pre .0 .r-high, rw (c .before .records-of .ensures, length-drop) (omega (arith, s .pre .0 .fits)), rw (c .records-of2 .ensures, length-drop, d .if1 .left, e .if2 .left) (omega (arith, s .pre .1 .fits)))
+    let s = d .before .before .before .before .before in (
+      s .pre .0 .r-low,
+      s .pre .0 .r-high,
+      rw (c .before .records-of .ensures, length-drop) (omega (arith, s .pre .0 .fits)),
+      rw (c .records-of2 .ensures, length-drop, d .if1 .left, e .if2 .left) (omega (arith, s .pre .1 .fits)),
+    )
 
 returns-3 : tie.Need-returns-3
 returns-3 c =
@@ -40,4 +44,5 @@ returns-3 c =
 
 pub tables-alike-spec : {M : Type 1} → statement M
 tables-alike-spec =
-    tie.close (tie.spec (λ c. search needs) (λ c. search needs) returns (λ c. search needs) (λ c. search needs) returns-2 (λ c κs. search needs) (λ c κs. search needs) (λ c. search needs) (λ c. search needs) records-alike-requires returns-3)
+    tie.close (tie.spec (λ c. search needs) (λ c. search needs) returns (λ c. search needs) (λ c. search needs) returns-2 (λ c κs. search needs)
+    (λ c κs. search needs) (λ c. search needs) (λ c. search needs) records-alike-requires returns-3)

@@ -5,7 +5,7 @@ use borrow.Author.Needs.{needs}
 use Rattle.model.specs.Table.{wellFormed}
 use Rattle.model.specs.Refusals.{auditRefusal}
 use Rattle.model.specs.Calls.{auditAnswer}
-use Rattle.table.proofs.Formed.{formed}
+use Rattle.table.proofs.WellFormed.{formed-words}
 use Rattle.audit.proofs.audit.Statement.{statement}
 use Rattle.audit.proofs.audit.Tie as tie
 
@@ -13,7 +13,7 @@ good : (c : tie.Then1) → wellFormed (c .before .before .before .args .t .now) 
 good c = sym (c .before .well-formed .ensures) ∙ c .if1 .taken
 
 audit-of-requires : tie.Need-audit-of-requires
-audit-of-requires c κs = formed _ (good c)
+audit-of-requires c κs = formed-words _ (good c)
 
 returns : tie.Need-returns
 unfolding auditAnswer auditRefusal

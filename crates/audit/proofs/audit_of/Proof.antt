@@ -1,6 +1,6 @@
 -- `audit_of` meets its contract. Assumes nothing.
 use borrow.Author.Needs.{needs}
-use Rattle.ring.proofs.Laws.{member-count}
+use Rattle.best_successors.proofs.Laws.{member-count}
 use Rattle.audit.proofs.audit_of.Statement.{statement}
 use Rattle.audit.proofs.audit_of.Tie as tie
 
@@ -12,4 +12,5 @@ returns c =
 
 pub audit-of-spec : {M : Type 1} → statement M
 audit-of-spec =
-    tie.close (tie.spec (λ c. search needs) (λ c. search needs) (λ c κs. search needs) (λ c κs. search needs) (λ c κs. search needs) (λ c κs. search needs) (λ c. search needs) (λ c. search needs) (λ c. search needs) returns)
+    tie.close (tie.spec (λ c. search needs) (λ c. search needs) (λ c κs. search needs) (λ c κs. search needs) (λ c κs. search needs) (λ c κs. search needs)
+    (λ c. search needs) (λ c. search needs) (λ c. search needs) returns)

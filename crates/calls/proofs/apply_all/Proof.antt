@@ -1,5 +1,5 @@
 -- `apply_all` meets its contract: a walk of its MIR, by hand, with a loop. The borrow of t is opened once, before the loop, and closed once, after it.
--- Between the two the words of t are the function's own: after k turns they are `ran cs ws k`, the slice after the first k calls. A turn looks into cs,
+-- Between the two the words of t are the function's own: after k iterations they are `ran cs ws k`, the slice after the first k calls. An iteration looks into cs,
 -- reads call k and shuts it again; then it lends the words for a lifetime of the call, calls `apply`, ends that lifetime and has the words back, at what
 -- `apply` says it left. Of `apply` it knows only that it meets its contract. Assumes nothing.
 use mathlib.Core.Path.{_≡_, refl, sym, _∙_, ap, subst}
@@ -53,10 +53,10 @@ use denote.Exit.{yes}
 use denote.Signature.{plain}
 use Rattle.model.specs.Run.{callAnswer, callWords}
 use Rattle.table.proofs.Tail.{tail}
-use Rattle.answer.specs.declared.Answer.{Answer}
-use Rattle.answer.specs.Packed.{Says}
-use Rattle.answer.proofs.Answer as Q
-use Rattle.answer.proofs.Answer.Laws as Q′
+use Rattle.answers.specs.declared.Answer.{Answer}
+use Rattle.answers.specs.Packed.{Says}
+use Rattle.answers.proofs.Answer as Q
+use Rattle.answers.proofs.Answer.Laws as Q′
 use Rattle.calls.specs.declared.Call.{Call}
 use Rattle.calls.specs.declared.Call.the-variants.{Audit}
 use Rattle.calls.specs.Calls.{callOf}
@@ -92,7 +92,7 @@ refTy = tyRef erased mut (tyInt w32)
 abbrev againTy : Ty
 againTy = sliceTy refTy
 
--- a turn after the reading of its call
+-- an iteration after the reading of its call
 abbrev with-call : Body → Body
 with-call t = tail (tail (tail (tail (tail (tail t)))))
 
@@ -104,7 +104,8 @@ off-fits room within = omega arith
 abbrev Apply : {M : Type 1} (𝓤 : URA M) (H : Heap 𝓤) (A : Atoms 𝓤) (mem : Memory → SProp 𝓤) (run : Routine → Fun 𝓤) → Contract 𝓤
 Apply 𝓤 H A mem run = tripleOf 𝓤 H A apply.signature (apply.spec 𝓤 H A mem run)
 
-module _ {M : Type 1} (𝓤 : URA M) (H : Heap 𝓤) (A : Atoms 𝓤) (W : Given 𝓤 H A) (mem : Memory → SProp 𝓤) (run : Routine → Fun 𝓤) (κ κ′ : Lft) (q q′ : Share) (b o : ℕ) (γ : GName) (ws : List ℕ) (b′ o′ : ℕ) (γ′ : GName) (cs : List Call)
+module _ {M : Type 1} (𝓤 : URA M) (H : Heap 𝓤) (A : Atoms 𝓤) (W : Given 𝓤 H A) (mem : Memory → SProp 𝓤) (run : Routine → Fun 𝓤) (κ κ′ : Lft) (q q′ : Share)
+    (b o : ℕ) (γ : GName) (ws : List ℕ) (b′ o′ : ℕ) (γ′ : GName) (cs : List Call)
     (room : Room u32 (length ws)) (room′ : Room R (length cs)) where
   -- t at a list, under a name
   abbrev x : GName → List ℕ → RefT (List ℕ)
@@ -159,7 +160,7 @@ module _ {M : Type 1} (𝓤 : URA M) (H : Heap 𝓤) (A : Atoms 𝓤) (W : Given
       -- [t; cs]
       nothing ! $ move ! (2 ∷ 0 ∷ []) $ fjoin ! $ move ! (1 ∷ 0 ∷ []) $ fjoin ! $ frame ! $ feqI ! (List Val) (vunit ∷ []) (vunit ∷ []) refl $ done !
 
-  -- the loop's variant: k turns are over, nearer as less is left
+  -- the loop's variant: k iterations are over, nearer as less is left
   abbrev Upto : Type 0
   Upto = (k : ℕ) × Made cs ws k
 
@@ -200,16 +201,19 @@ module _ {M : Type 1} (𝓤 : URA M) (H : Heap 𝓤) (A : Atoms 𝓤) (W : Given
     abbrev En : Env 𝓤 H
     En = (tyUnit, l₀) ∷ (tTy, l₁) ∷ (csTy, l₂) ∷ (word, l₃) ∷ (T′.mir, l₄) ∷ (word, l₅) ∷ (tyBool, l₆) ∷ (tyPtr, l₇) ∷ (T′.mir, l₈) ∷ (Q′.mir, l₉) ∷ (refTy, l₁₀) ∷ (againTy, l₁₁) ∷ []
 
-    -- the locals that outlive a turn, at k: _3; …; _2; …; _1; …; room for _0; …
+    -- the locals that outlive an iteration, at k: _3; …; _2; …; _1; …; room for _0; …
     abbrev Stay : ℕ → List (Item 𝓤)
-    Stay k = ‵ (fat fullShare word l₃ 0 (vint w64 k)) ∷ ‵ (fdies word l₃) ∷ ‵ (fat fullShare csTy l₂ 0 v) ∷ ‵ (fdies csTy l₂) ∷ ‵ (fat fullShare tTy l₁ 0 s) ∷ ‵ (fdies tTy l₁) ∷ ‵ (froom tyUnit l₀ 0) ∷ ‵ (fdies tyUnit l₀) ∷ []
+    Stay k = ‵ (fat fullShare word l₃ 0 (vint w64 k)) ∷ ‵ (fdies word l₃) ∷ ‵ (fat fullShare csTy l₂ 0 v) ∷ ‵ (fdies csTy l₂) ∷ ‵ (fat fullShare tTy l₁ 0 s)
+        ∷ ‵ (fdies tTy l₁) ∷ ‵ (froom tyUnit l₀ 0) ∷ ‵ (fdies tyUnit l₀) ∷ []
 
     -- the invariant
     abbrev At : Upto → List (Item 𝓤)
-    At k = ‵ (Words (ran cs ws (k .0))) ∷ ‵ Open ∷ ‵ OwnC ∷ ‵ (flft κ′ q′) ∷ ‵ (froom againTy l₁₁ 0) ∷ ‵ (fdies againTy l₁₁) ∷ ‵ (froom refTy l₁₀ 0) ∷ ‵ (fdies refTy l₁₀) ∷ ‵ (froom Q′.mir l₉ 0) ∷ ‵ (fdies Q′.mir l₉)
-        ∷ ‵ (froom T′.mir l₈ 0) ∷ ‵ (fdies T′.mir l₈) ∷ ‵ (froom tyPtr l₇ 0) ∷ ‵ (fdies tyPtr l₇) ∷ ‵ (froom tyBool l₆ 0) ∷ ‵ (fdies tyBool l₆) ∷ ‵ (froom word l₅ 0) ∷ ‵ (fdies word l₅) ∷ ‵ (froom T′.mir l₄ 0) ∷ ‵ (fdies T′.mir l₄) ∷ Stay (k .0)
+    At k = ‵ (Words (ran cs ws (k .0))) ∷ ‵ Open ∷ ‵ OwnC ∷ ‵ (flft κ′ q′) ∷ ‵ (froom againTy l₁₁ 0) ∷ ‵ (fdies againTy l₁₁) ∷ ‵ (froom refTy l₁₀ 0)
+        ∷ ‵ (fdies refTy l₁₀) ∷ ‵ (froom Q′.mir l₉ 0) ∷ ‵ (fdies Q′.mir l₉)
+        ∷ ‵ (froom T′.mir l₈ 0) ∷ ‵ (fdies T′.mir l₈) ∷ ‵ (froom tyPtr l₇ 0) ∷ ‵ (fdies tyPtr l₇) ∷ ‵ (froom tyBool l₆ 0) ∷ ‵ (fdies tyBool l₆)
+        ∷ ‵ (froom word l₅ 0) ∷ ‵ (fdies word l₅) ∷ ‵ (froom T′.mir l₄ 0) ∷ ‵ (fdies T′.mir l₄) ∷ Stay (k .0)
 
-    -- a turn's postcondition: it ends nearer to n, or the loop is left and the rest of the body runs
+    -- an iteration's postcondition: it ends nearer to n, or the loop is left and the rest of the body runs
     abbrev Turned : Upto → Out → SProp 𝓤
     Turned k = afterTurn 𝓤 H (Below 𝓤 H A Nearer At k) (afterBlock 𝓤 H (afterSeq 𝓤 H (Wp 𝓤 H C Λ En mir.t-3 (atReturn 𝓤 H En Post)) (atReturn 𝓤 H En Post)))
 
@@ -224,8 +228,10 @@ module _ {M : Type 1} (𝓤 : URA M) (H : Heap 𝓤) (A : Atoms 𝓤) (W : Given
 
     -- with call k read
     abbrev Mid : Upto → List (Item 𝓤)
-    Mid k = ‵ (Words (ran cs ws (k .0))) ∷ ‵ Open ∷ ‵ OwnC ∷ ‵ (flft κ′ q′) ∷ ‵ (froom againTy l₁₁ 0) ∷ ‵ (fdies againTy l₁₁) ∷ ‵ (froom refTy l₁₀ 0) ∷ ‵ (fdies refTy l₁₀) ∷ ‵ (froom Q′.mir l₉ 0) ∷ ‵ (fdies Q′.mir l₉)
-        ∷ ‵ (fat fullShare T′.mir l₈ 0 (callVal (callAt cs (k .0)))) ∷ ‵ (fdies T′.mir l₈) ∷ ‵ (fat fullShare tyPtr l₇ 0 (vptr b′ (place 12 o′ (k .0)))) ∷ ‵ (fdies tyPtr l₇) ∷ ‵ (fat fullShare tyBool l₆ 0 (vbool (ltb (k .0) n))) ∷ ‵ (fdies tyBool l₆)
+    Mid k = ‵ (Words (ran cs ws (k .0))) ∷ ‵ Open ∷ ‵ OwnC ∷ ‵ (flft κ′ q′) ∷ ‵ (froom againTy l₁₁ 0) ∷ ‵ (fdies againTy l₁₁) ∷ ‵ (froom refTy l₁₀ 0)
+        ∷ ‵ (fdies refTy l₁₀) ∷ ‵ (froom Q′.mir l₉ 0) ∷ ‵ (fdies Q′.mir l₉)
+        ∷ ‵ (fat fullShare T′.mir l₈ 0 (callVal (callAt cs (k .0)))) ∷ ‵ (fdies T′.mir l₈) ∷ ‵ (fat fullShare tyPtr l₇ 0 (vptr b′ (place 12 o′ (k .0))))
+        ∷ ‵ (fdies tyPtr l₇) ∷ ‵ (fat fullShare tyBool l₆ 0 (vbool (ltb (k .0) n))) ∷ ‵ (fdies tyBool l₆)
         ∷ ‵ (fat fullShare word l₅ 0 (vint w64 (k .0 * 12))) ∷ ‵ (fdies word l₅) ∷ ‵ (froom T′.mir l₄ 0) ∷ ‵ (fdies T′.mir l₄) ∷ Stay (k .0)
 
     -- the call
@@ -236,7 +242,9 @@ module _ {M : Type 1} (𝓤 : URA M) (H : Heap 𝓤) (A : Atoms 𝓤) (W : Given
         -- [t's words; its open borrow; cs; cs's token; _11; …; _10; …; _9; …; _8; …; _7; …; _6; …; _5; …; _4; …; _3; …; _2; …; _1; …; room for _0; …]
         assigns ! (of-opd ! (load ! (from ! (stop !)) (look ! 10 refl))) (from ! (stop !)) (init ! 18 refl (EL.lawful T.the-type T′.the-laws 𝓤 H A W tt .typed c _ is .0)) $
         assigns ! (addr ! (from ! (fld ! refl (hop ! (look-in ! 24 (sub ! 0 refl (whole !))) (stop !))))) (from ! (stop !)) (init ! 6 refl (tt, tt)) $
-        assigns ! (agg ! (and-then ! (load ! (from ! (stop !)) (look ! 6 refl)) (and-then ! (load ! (from ! (fld ! refl (stop !))) (look-in ! 24 (sub ! 1 refl (whole !)))) (no-more !)))) (from ! (stop !)) (init ! 4 refl (tt, (tt, (record { fits = room .0 }, tt)))) $
+        assigns ! (agg ! (and-then ! (load ! (from ! (stop !)) (look ! 6 refl))
+        (and-then ! (load ! (from ! (fld ! refl (stop !))) (look-in ! 24 (sub ! 1 refl (whole !)))) (no-more !)))) (from ! (stop !))
+        (init ! 4 refl (tt, (tt, (record { fits = room .0 }, tt)))) $
         -- t's words are lent for ν
         lft-new ! tt (λ ν. move ! (1 ∷ []) $
         use1 W (later (some (λ (δ : GName). ‵ (MutSlice (named 0) (ν ∷ []) u32 .own (x δ us) (sliceVal (b, o) (length us) ∷ [])) ⊛ ‵ (flent (ν ∷ []) (Held u32 (length us) b o δ)))))
@@ -246,15 +254,19 @@ module _ {M : Type 1} (𝓤 : URA M) (H : Heap 𝓤) (A : Atoms 𝓤) (W : Given
         nothing ! $ owned ! R (Is R) (EL.makes T.the-type T′.the-plain 𝓤 H A) c _ is $ fjoin ! $ move ! (1 ∷ 0 ∷ []) $ fjoin ! $ move ! (2 ∷ 0 ∷ []) $
         use2 W (raw (Apply 𝓤 H A mem run .pre (to ν δ us c))) (asked ν δ us c) $
         -- [what `apply` asks; the lender's part; t's open borrow; cs; cs's token; _11; …]
-        calls-at ! (fmOf 𝓤 H (W .laws) 𝓣) (Apply 𝓤 H A mem run) known (to ν δ us c) (and-then ! (load ! (from ! (stop !)) (look ! 5 refl)) (and-then ! (load ! (from ! (stop !)) (look ! 19 refl)) (no-more !))) (λ u.
-        use1 W (later (some (λ (f : Answer). ((‵ (flft (ν ∷ []) fullShare) ⊛ ‵ ftrue) ⊛ ‵ (Q.the-row .own f (u ∷ []))) ⊛ raw (ensured 𝓤 H A apply.ended (apply.clauses 𝓤 H A mem run) (ν ∷ [], tt) (args ν δ us c) tt f)))) (id⊢ 𝓤 _) $ await ! tt $ pick ! (λ f.
-        split ! $ move ! (1 ∷ []) $ use1 W (some (λ (ls : List ℕ × (Unit {0} × Unit {0})). ‵ (lasts apply.ended (ν ∷ [], tt) (args ν δ us c) ls) ⊛ raw (fact 𝓤 (Said ν δ us c f (ls .0))))) (id⊢ 𝓤 _) $ pick ! (λ ls.
+        calls-at ! (fmOf 𝓤 H (W .laws) 𝓣) (Apply 𝓤 H A mem run) known (to ν δ us c)
+        (and-then ! (load ! (from ! (stop !)) (look ! 5 refl)) (and-then ! (load ! (from ! (stop !)) (look ! 19 refl)) (no-more !))) (λ u.
+        use1 W (later (some (λ (f : Answer). ((‵ (flft (ν ∷ []) fullShare) ⊛ ‵ ftrue) ⊛ ‵ (Q.the-row .own f (u ∷ [])))
+        ⊛ raw (ensured 𝓤 H A apply.ended (apply.clauses 𝓤 H A mem run) (ν ∷ [], tt) (args ν δ us c) tt f)))) (id⊢ 𝓤 _) $ await ! tt $ pick ! (λ f.
+        split ! $ move ! (1 ∷ []) $ use1 W (some (λ (ls : List ℕ × (Unit {0} × Unit {0})). ‵ (lasts apply.ended (ν ∷ [], tt) (args ν δ us c) ls)
+        ⊛ raw (fact 𝓤 (Said ν δ us c f (ls .0))))) (id⊢ 𝓤 _) $ pick ! (λ ls.
         split ! $ move ! (1 ∷ []) $ heard ! (Said ν δ us c f (ls .0)) (λ e. fsplit ! $ fsplit ! $ move ! (1 ∷ []) $ feqL ! (λ same.
         -- [t's last list; c's part; ν's token and the answer; the lender's part; t's open borrow; cs; cs's token; _11; …]
         move ! (2 ∷ []) $ split ! $ move ! (1 ∷ []) $ peeks ! Q.the-row (Is Q.the-row) (shows 𝓤 H A Q.the-row) f (u ∷ []) (λ isf.
         land ! (from ! (stop !)) (init ! 12 refl (LL.lawful Q.the-type Q′.the-laws 𝓤 H A W .typed f _ isf .0)) $ drop ! $ split ! $
         -- [ν's token; true; t's last list; c's part; the lender's part; t's open borrow; cs; cs's token; _11; …]: ν ends, and the words are back
-        lft-end ! tt $ move ! (0 ∷ 4 ∷ 2 ∷ []) $ use3 W (later (‵ (Arr (in-memory u32) (length us) .lies (ls .0) b o))) (slice-back 𝓤 H A W u32 (ν ∷ []) δ (ls .0) (length us) b o) $ await ! tt $ fsplit ! $ drop ! $
+        lft-end ! tt $ move ! (0 ∷ 4 ∷ 2 ∷ []) $ use3 W (later (‵ (Arr (in-memory u32) (length us) .lies (ls .0) b o)))
+        (slice-back 𝓤 H A W u32 (ν ∷ []) δ (ls .0) (length us) b o) $ await ! tt $ fsplit ! $ drop ! $
         -- [t's words; true; c's part; its open borrow; cs; cs's token; _11; …]
         rewrite ! 0 (λ (l : List ℕ). ‵ (Words l)) (e .1) refl $ rewrite ! 0 (λ (j : ℕ). ‵ (Words (ran cs ws j))) (sym (add-one (k .0))) refl $
         (let next : Upto = (k .0 + 1, one-more (k .1) less (words-of c is) (ap length (sym (e .1)) ∙ same)) in
@@ -280,7 +292,8 @@ module _ {M : Type 1} (𝓤 : URA M) (H : Heap 𝓤) (A : Atoms 𝓤) (W : Given
         move ! (0 ∷ 4 ∷ []) $ looks-slice ! tt R (Is R) (shows 𝓤 H A R) callVals (EL.tells T.the-type T′.the-laws) (EL.copy T.the-type T′.the-copy 𝓤 H A W) cs b′ o′ (λ q₁.
         elem-out ! R (Is R) (shows 𝓤 H A R) callVals (EL.tells T.the-type T′.the-laws) q₁ cs (k .0) Audit b′ o′ less (λ is.
         -- [cs[k]; what it owns; the others; what shuts; the fractured borrow; cs; t's words; its open borrow; _11; …]
-        assigns ! (of-opd ! (load ! (from ! (hop ! (look ! 16 refl) (stop !))) (look-raw ! 0 refl))) (from ! (stop !)) (init ! 14 refl (EL.lawful T.the-type T′.the-laws 𝓤 H A W tt .typed (callAt cs (k .0)) _ is .0)) $
+        assigns ! (of-opd ! (load ! (from ! (hop ! (look ! 16 refl) (stop !))) (look-raw ! 0 refl))) (from ! (stop !))
+        (init ! 14 refl (EL.lawful T.the-type T′.the-laws 𝓤 H A W tt .typed (callAt cs (k .0)) _ is .0)) $
         elem-back ! R q₁ cs (k .0) Audit (callVals (callAt cs (k .0))) b′ o′ less $ shuts-slice ! tt R q₁ cs b′ o′ $ move ! (1 ∷ []) $ drop ! $
         -- [cs's token; cs; t's words; its open borrow; _11; …]
         move ! (2 ∷ 3 ∷ 1 ∷ []) $ calls-on k less is)))
@@ -294,17 +307,22 @@ module _ {M : Type 1} (𝓤 : URA M) (H : Heap 𝓤) (A : Atoms 𝓤) (W : Given
         pureI ! (at-slice u32 (x γ (ran cs ws n)) (s ∷ [])) (tt, (tt, tt)) (ap (λ (m : ℕ). sliceVal (b, o) m ∷ []) (sym (made .as-long)), subst (Room u32) (sym (made .as-long)) room) $ fjoin ! $
         -- [t; t's token; cs; cs's token; _11; …]
         returns ! (look ! 26 refl) $ forget ! 14 refl $ forget ! 16 refl $ forget ! 20 refl $ forget ! 22 refl $ forget ! 24 refl $ forget ! 26 refl $
-        move ! (26 ∷ 27 ∷ []) $ free1 ! $ move ! (24 ∷ 25 ∷ []) $ free1 ! $ move ! (22 ∷ 23 ∷ []) $ free1 ! $ move ! (20 ∷ 21 ∷ []) $ free1 ! $ move ! (18 ∷ 19 ∷ []) $ free1 ! $ move ! (16 ∷ 17 ∷ []) $ free1 ! $
-        move ! (14 ∷ 15 ∷ []) $ free1 ! $ move ! (12 ∷ 13 ∷ []) $ free1 ! $ move ! (10 ∷ 11 ∷ []) $ free1 ! $ move ! (8 ∷ 9 ∷ []) $ free1 ! $ move ! (6 ∷ 7 ∷ []) $ free1 ! $ move ! (4 ∷ 5 ∷ []) $ free1 ! $ free0 ! $ by ! (exits made)))
+        move ! (26 ∷ 27 ∷ []) $ free1 ! $ move ! (24 ∷ 25 ∷ []) $ free1 ! $ move ! (22 ∷ 23 ∷ []) $ free1 ! $ move ! (20 ∷ 21 ∷ [])
+        $ free1 ! $ move ! (18 ∷ 19 ∷ []) $ free1 ! $ move ! (16 ∷ 17 ∷ []) $ free1 ! $
+        move ! (14 ∷ 15 ∷ []) $ free1 ! $ move ! (12 ∷ 13 ∷ []) $ free1 ! $ move ! (10 ∷ 11 ∷ []) $ free1 ! $ move ! (8 ∷ 9 ∷ [])
+        $ free1 ! $ move ! (6 ∷ 7 ∷ []) $ free1 ! $ move ! (4 ∷ 5 ∷ []) $ free1 ! $ free0 ! $ by ! (exits made)))
 
     -- the loop and the rest of the body
     loops-on : Sq W (At (0, none-yet cs ws)) (runs C Λ En mir.t-2 (atRet En Post))
     loops-on = first ! $ blocks ! $ loops ! 𝓣 Nearer Nearer-wf At turns (0, none-yet cs ws)
 
-  walk : (𝓣 : Tables 𝓤 H) → Triple 𝓤 (𝓣 .C #calls·apply) (Apply 𝓤 H A mem run) → ent 𝓤 (onEntry 𝓤 H A apply-all.signature (κ, (κ′, tt)) (q, (q′, tt)) a at) (WpFn 𝓤 H (𝓣 .C) (𝓣 .Λ) code.function (s ∷ v ∷ []) Post)
+  walk : (𝓣 : Tables 𝓤 H) → Triple 𝓤 (𝓣 .C #calls·apply) (Apply 𝓤 H A mem run)
+      → ent 𝓤 (onEntry 𝓤 H A apply-all.signature (κ, (κ′, tt)) (q, (q′, tt)) a at) (WpFn 𝓤 H (𝓣 .C) (𝓣 .Λ) code.function (s ∷ v ∷ []) Post)
   walk 𝓣 known =
       qed W ((‵ (flft κ q) ⊛ ‵ (flft κ′ q′) ⊛ ‵ ftrue) ∷ ‵ (owns (MutSlice (named 0) κ u32 ∷ ShrSlice (named 1) κ′ R ∷ []) a at) ∷ []) ∵ enter ! (𝓣 .C) (𝓣 .Λ) code.function (s ∷ v ∷ []) _ $
-      alloc1 ! (λ l₀. alloc1 ! (λ l₁. alloc1 ! (λ l₂. alloc1 ! (λ l₃. alloc1 ! (λ l₄. alloc1 ! (λ l₅. alloc1 ! (λ l₆. alloc1 ! (λ l₇. alloc1 ! (λ l₈. alloc1 ! (λ l₉. alloc1 ! (λ l₁₀. alloc1 ! (λ l₁₁. alloc0 ! $ params1 ! $
+      alloc1 ! (λ l₀. alloc1 ! (λ l₁. alloc1 ! (λ l₂. alloc1
+      ! (λ l₃. alloc1 ! (λ l₄. alloc1 ! (λ l₅. alloc1 ! (λ l₆. alloc1
+      ! (λ l₇. alloc1 ! (λ l₈. alloc1 ! (λ l₉. alloc1 ! (λ l₁₀. alloc1 ! (λ l₁₁. alloc0 ! $ params1 ! $
       pass1 ! (init ! 20 refl (tt, (tt, (record { fits = room .0 }, tt)))) $ pass1 ! (init ! 18 refl (tt, (tt, (record { fits = room′ .0 }, tt)))) $ pass0 ! $
       -- [_11; …; _10; …; down to _3; …; _2; …; _1; …; room for _0; …; the tokens; what the parameters own]
       assigns ! (of-opd ! (lit ! tt)) (from ! (stop !)) (init ! 16 refl (tt, record { fits = lit< tt })) $
@@ -316,7 +334,8 @@ module _ {M : Type 1} (𝓤 : URA M) (H : Heap 𝓤) (A : Atoms 𝓤) (W : Given
       keep ! (1 ∷ 0 ∷ 5 ∷ 3 ∷ 7 ∷ 8 ∷ 9 ∷ 10 ∷ 11 ∷ 12 ∷ 13 ∷ 14 ∷ 15 ∷ 16 ∷ 17 ∷ 18 ∷ 19 ∷ 20 ∷ 21 ∷ 22 ∷ 23 ∷ 24 ∷ 25 ∷ 26 ∷ 27 ∷ 28 ∷ 29 ∷ 30 ∷ []) $
       loops-on 𝓣 known l₀ l₁ l₂ l₃ l₄ l₅ l₆ l₇ l₈ l₉ l₁₀ l₁₁))))))))))))
 
-module _ {M : Type 1} (𝓤 : URA M) (H : Heap 𝓤) (A : Atoms 𝓤) (W : Given 𝓤 H A) (mem : Memory → SProp 𝓤) (run : Routine → Fun 𝓤) (𝓣 : Tables 𝓤 H) (known : Triple 𝓤 (𝓣 .C #calls·apply) (Apply 𝓤 H A mem run)) where
+module _ {M : Type 1} (𝓤 : URA M) (H : Heap 𝓤) (A : Atoms 𝓤) (W : Given 𝓤 H A) (mem : Memory → SProp 𝓤) (run : Routine → Fun 𝓤) (𝓣 : Tables 𝓤 H)
+    (known : Triple 𝓤 (𝓣 .C #calls·apply) (Apply 𝓤 H A mem run)) where
   apply-all-walks : Walks 𝓤 H A apply-all.ended stayed (WpFn 𝓤 H (𝓣 .C) (𝓣 .Λ) code.function) (apply-all.clauses 𝓤 H A mem run)
   apply-all-walks = walked 𝓤 H A apply-all.ended stayed (apply-all.clauses 𝓤 H A mem run) (WpFn 𝓤 H (𝓣 .C) (𝓣 .Λ) code.function)
       (λ κs. (slice-vals, (slice-vals, tt))) (λ κs. (mut-slice-tells (named 0) (κs .0) u32, (shr-slice-tells (named 1) (κs .1 .0) R, tt)))

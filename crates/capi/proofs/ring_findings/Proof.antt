@@ -38,10 +38,10 @@ use denote.Triple.Walked.{says, Stays, stay-none-slice, gave-slice, walkOf, goes
 use denote.Exit.{yes}
 use denote.Signature.{plain}
 use Rattle.model.specs.Calls.{findingsAnswer, findingsAfter}
-use Rattle.report.specs.declared.Report.{Report}
-use Rattle.report.specs.Answers.{answerOf}
-use Rattle.report.proofs.Report as Q
-use Rattle.report.proofs.Report.Laws as Q′
+use Rattle.answers.specs.declared.report.Report.{Report}
+use Rattle.answers.specs.Report.{answerOf}
+use Rattle.answers.proofs.report.Report as Q
+use Rattle.answers.proofs.report.Report.Laws as Q′
 use Rattle.finding.specs.declared.Finding.{Finding}
 use Rattle.finding.proofs.Finding as T
 use Rattle.finding.specs.View.{views}
@@ -49,14 +49,14 @@ use Rattle.findings.proofs.findings as findings
 use Rattle.findings.proofs.findings.Symbol as findings-def
 use Rattle.findings.proofs.findings.Symbol.{name as #findings·findings}
 use Rattle.findings.proofs.findings.Met as findings-thm
-use Rattle.answer.specs.declared.Answer.{Answer}
-use Rattle.answer.specs.Packed.{packed, Says}
-use Rattle.answer.proofs.Answer as N
-use Rattle.answer.proofs.Answer.Laws as N′
-use Rattle.report.proofs.numbers as numbers
-use Rattle.report.proofs.numbers.Symbol as numbers-def
-use Rattle.report.proofs.numbers.Symbol.{name as #report·numbers}
-use Rattle.report.proofs.numbers.Met as numbers-thm
+use Rattle.answers.specs.declared.Answer.{Answer}
+use Rattle.answers.specs.Packed.{packed, Says}
+use Rattle.answers.proofs.Answer as N
+use Rattle.answers.proofs.Answer.Laws as N′
+use Rattle.answers.proofs.report.numbers as numbers
+use Rattle.answers.proofs.report.numbers.Symbol as numbers-def
+use Rattle.answers.proofs.report.numbers.Symbol.{name as #answers·report·numbers}
+use Rattle.answers.proofs.report.numbers.Met as numbers-thm
 use Rattle.capi.proofs.ring_findings.Key.{name as #capi·ring_findings}
 use Rattle.capi.proofs.ring_findings as ring_findings
 use Rattle.capi.proofs.ring_findings.Statement as stated
@@ -77,7 +77,8 @@ module _ {M : Type 1} (𝓤 : URA M) (H : Heap 𝓤) (A : Atoms 𝓤) (mem : Mem
   abbrev Numbers : Contract 𝓤
   Numbers = tripleOf 𝓤 H A numbers.signature (numbers.spec 𝓤 H A mem run)
 
-module _ {M : Type 1} (𝓤 : URA M) (H : Heap 𝓤) (A : Atoms 𝓤) (W : Given 𝓤 H A) (mem : Memory → SProp 𝓤) (run : Routine → Fun 𝓤) (κ κ′ : Lft) (q q′ : Share) (w : RefT (List ℕ)) (b o : ℕ) (γ : GName) (ys : List Finding) (roomʷ : Room u32 (length (w .now))) (room : Room R (length ys)) where
+module _ {M : Type 1} (𝓤 : URA M) (H : Heap 𝓤) (A : Atoms 𝓤) (W : Given 𝓤 H A) (mem : Memory → SProp 𝓤) (run : Routine → Fun 𝓤) (κ κ′ : Lft) (q q′ : Share)
+    (w : RefT (List ℕ)) (b o : ℕ) (γ : GName) (ys : List Finding) (roomʷ : Room u32 (length (w .now))) (room : Room R (length ys)) where
   abbrev x : RefT (List Finding)
   x = record { ptr = (b, o); name = γ; now = ys }
 
@@ -139,7 +140,8 @@ module _ {M : Type 1} (𝓤 : URA M) (H : Heap 𝓤) (A : Atoms 𝓤) (W : Given
       -- [out's last records; t; the answer]
       nothing ! $ move ! (1 ∷ 0 ∷ []) $ fjoin ! $ move ! (1 ∷ 0 ∷ []) $ fjoin ! $ frame ! $ done !
 
-  module _ (C : Calls 𝓤 H) (Λ : Loops 𝓤 H) (fm : FmC 𝓤 H (W .laws) C) (known-findings : Triple 𝓤 (C #findings·findings) (Findings 𝓤 H A mem run)) (known-numbers : Triple 𝓤 (C #report·numbers) (Numbers 𝓤 H A mem run)) where
+  module _ (C : Calls 𝓤 H) (Λ : Loops 𝓤 H) (fm : FmC 𝓤 H (W .laws) C) (known-findings : Triple 𝓤 (C #findings·findings) (Findings 𝓤 H A mem run))
+      (known-numbers : Triple 𝓤 (C #answers·report·numbers) (Numbers 𝓤 H A mem run)) where
     walk : ent 𝓤 (onEntry 𝓤 H A ring_findings.signature (κ, (κ′, tt)) (q, (q′, tt)) a at) (WpFn 𝓤 H C Λ code.function (v ∷ s ∷ []) Post)
     walk =
         qed W ((‵ (flft κ q) ⊛ ‵ (flft κ′ q′) ⊛ ‵ ftrue) ∷ ‵ lent-findings ∷ []) ∵ enter ! C Λ code.function (v ∷ s ∷ []) _ $
@@ -147,14 +149,19 @@ module _ {M : Type 1} (𝓤 : URA M) (H : Heap 𝓤) (A : Atoms 𝓤) (W : Given
         pass1 ! (init ! 8 refl (tt, (tt, (record { fits = roomʷ .0 }, tt)))) $ pass1 ! (init ! 6 refl (tt, (tt, (record { fits = room .0 }, tt)))) $ pass0 ! $
         -- [_5; …; _4; …; _3; …; _2; …; _1; …; room for _0; …; the tokens; what table and out own]
         assigns ! (addr ! (from ! (fld ! refl (hop ! (look-in ! 6 (sub ! 0 refl (whole !))) (stop !))))) (from ! (stop !)) (init ! 2 refl (tt, tt)) $
-        assigns ! (agg ! (and-then ! (load ! (from ! (stop !)) (look ! 2 refl)) (and-then ! (load ! (from ! (fld ! refl (stop !))) (look-in ! 6 (sub ! 1 refl (whole !)))) (no-more !)))) (from ! (stop !)) (init ! 0 refl (tt, (tt, (record { fits = room .0 }, tt)))) $
+        assigns ! (agg ! (and-then ! (load ! (from ! (stop !)) (look ! 2 refl))
+        (and-then ! (load ! (from ! (fld ! refl (stop !))) (look-in ! 6 (sub ! 1 refl (whole !)))) (no-more !)))) (from ! (stop !))
+        (init ! 0 refl (tt, (tt, (record { fits = room .0 }, tt)))) $
         -- one copy of table goes to `findings`
         move ! (13 ∷ []) $ fsplit ! $ use1 W (‵ OwnT ⊛ ‵ OwnT) (shr-slice-copy 𝓤 H A W (named 0) κ u32 .twice w (v ∷ [])) $ split ! $ move ! (0 ∷ 2 ∷ []) $ fjoin ! $ move ! (14 ∷ []) $
         use2 W (raw (Findings 𝓤 H A mem run .pre to-findings)) asked-findings $
         -- [what `findings` asks; table; _5; …; _4; …; _3; …; _2; …; _1; …; room for _0; …]
-        calls-at ! fm (Findings 𝓤 H A mem run) known-findings to-findings (and-then ! (load ! (from ! (stop !)) (look ! 10 refl)) (and-then ! (load ! (from ! (stop !)) (look ! 2 refl)) (no-more !))) (λ u.
-        use1 W (later (some (λ (r : Report). ((‵ (flft κ q) ⊛ (‵ (flft κ′ q′) ⊛ ‵ ftrue)) ⊛ ‵ (Q.the-row .own r (u ∷ []))) ⊛ raw (ensured 𝓤 H A findings.ended (findings.clauses 𝓤 H A mem run) (κ, (κ′, tt)) a tt r)))) (id⊢ 𝓤 _) $ await ! tt $ pick ! (λ r.
-        split ! $ move ! (1 ∷ []) $ use1 W (some (λ (ls : Unit {0} × (List Finding × Unit {0})). ‵ (lasts findings.ended (κ, (κ′, tt)) a ls) ⊛ raw (fact 𝓤 (Told r (ls .1 .0))))) (id⊢ 𝓤 _) $ pick ! (λ ls.
+        calls-at ! fm (Findings 𝓤 H A mem run) known-findings to-findings
+        (and-then ! (load ! (from ! (stop !)) (look ! 10 refl)) (and-then ! (load ! (from ! (stop !)) (look ! 2 refl)) (no-more !))) (λ u.
+        use1 W (later (some (λ (r : Report). ((‵ (flft κ q) ⊛ (‵ (flft κ′ q′) ⊛ ‵ ftrue)) ⊛ ‵ (Q.the-row .own r (u ∷ [])))
+        ⊛ raw (ensured 𝓤 H A findings.ended (findings.clauses 𝓤 H A mem run) (κ, (κ′, tt)) a tt r)))) (id⊢ 𝓤 _) $ await ! tt $ pick ! (λ r.
+        split ! $ move ! (1 ∷ []) $ use1 W (some (λ (ls : Unit {0} × (List Finding × Unit {0})). ‵ (lasts findings.ended (κ, (κ′, tt)) a ls)
+        ⊛ raw (fact 𝓤 (Told r (ls .1 .0))))) (id⊢ 𝓤 _) $ pick ! (λ ls.
         split ! $ move ! (1 ∷ []) $ heard ! (Told r (ls .1 .0)) (λ told.
         -- [what says the last values; the tokens and the report; table; _5; …]
         fsplit ! $ drop ! $ fsplit ! $ fsplit ! $ move ! (1 ∷ []) $ feqL ! (λ l.
@@ -165,26 +172,34 @@ module _ {M : Type 1} (𝓤 : URA M) (H : Heap 𝓤) (A : Atoms 𝓤) (W : Given
         nothing ! $ move ! (1 ∷ 0 ∷ []) $ fjoin ! $ nothing ! $ use2 W (raw (Numbers 𝓤 H A mem run .pre (to-numbers r u))) (asked-numbers r u) $
         -- [what `numbers` asks; the tokens; out's last records; true; table; _5; …]
         calls-at ! fm (Numbers 𝓤 H A mem run) known-numbers (to-numbers r u) (and-then ! (load ! (from ! (stop !)) (look ! 9 refl)) (no-more !)) (λ y.
-        use1 W (later (some (λ (n : Answer). (‵ ftrue ⊛ ‵ (N.the-row .own n (y ∷ []))) ⊛ raw (ensured 𝓤 H A numbers.ended (numbers.clauses 𝓤 H A mem run) tt (r, tt) tt n)))) (id⊢ 𝓤 _) $ await ! tt $ pick ! (λ n.
+        use1 W (later (some (λ (n : Answer). (‵ ftrue ⊛ ‵ (N.the-row .own n (y ∷ [])))
+        ⊛ raw (ensured 𝓤 H A numbers.ended (numbers.clauses 𝓤 H A mem run) tt (r, tt) tt n)))) (id⊢ 𝓤 _) $ await ! tt $ pick ! (λ n.
         split ! $ move ! (1 ∷ []) $ use1 W (raw (fact 𝓤 (Says n (answerOf r)))) (said-numbers r n) $ heard ! (Says n (answerOf r)) (λ e. split ! $ drop ! $
         -- [the answer; the tokens; out's last records; true; table; _5; …]
         peeks ! N.the-row (Is N.the-row) (shows 𝓤 H A N.the-row) n (y ∷ []) (λ isy.
         land ! (from ! (stop !)) (init ! 15 refl (LL.lawful N.the-type N′.the-laws 𝓤 H A W .typed n _ isy .0)) $
         returns ! (look ! 15 refl) $ forget ! 5 refl $ forget ! 7 refl $ forget ! 9 refl $ forget ! 11 refl $ forget ! 13 refl $ forget ! 15 refl $
-        move ! (15 ∷ 16 ∷ []) $ free1 ! $ move ! (13 ∷ 14 ∷ []) $ free1 ! $ move ! (11 ∷ 12 ∷ []) $ free1 ! $ move ! (9 ∷ 10 ∷ []) $ free1 ! $ move ! (7 ∷ 8 ∷ []) $ free1 ! $ move ! (5 ∷ 6 ∷ []) $ free1 ! $ free0 ! $
+        move ! (15 ∷ 16 ∷ []) $ free1 ! $ move ! (13 ∷ 14 ∷ []) $ free1 ! $ move ! (11 ∷ 12 ∷ []) $ free1 ! $ move ! (9 ∷ 10 ∷ [])
+        $ free1 ! $ move ! (7 ∷ 8 ∷ []) $ free1 ! $ move ! (5 ∷ 6 ∷ []) $ free1 ! $ free0 ! $
         keep ! (1 ∷ 2 ∷ 4 ∷ 0 ∷ []) $ by ! (exits r (ls .1 .0) told l n e y)))))))))))))))))
 
-module _ {M : Type 1} (𝓤 : URA M) (H : Heap 𝓤) (A : Atoms 𝓤) (W : Given 𝓤 H A) (mem : Memory → SProp 𝓤) (run : Routine → Fun 𝓤) (𝓣 : Tables 𝓤 H) (known-findings : Triple 𝓤 (𝓣 .C #findings·findings) (Findings 𝓤 H A mem run)) (known-numbers : Triple 𝓤 (𝓣 .C #report·numbers) (Numbers 𝓤 H A mem run)) where
-  ring-findings-walks : Walks 𝓤 H A ring_findings.ended stayed (WpFn 𝓤 H (𝓣 .C) (𝓣 .Λ) code.function) (ring_findings.clauses 𝓤 H A mem run)
-  ring-findings-walks = walked 𝓤 H A ring_findings.ended stayed (ring_findings.clauses 𝓤 H A mem run) (WpFn 𝓤 H (𝓣 .C) (𝓣 .Λ) code.function)
-      (λ κs. (slice-vals, (slice-vals, tt))) (λ κs. (shr-slice-tells (named 0) (κs .0) u32, (mut-slice-tells (named 1) (κs .1 .0) R, tt)))
-      (λ κs qs bounds a g are. via 𝓤 _ (fst∗ 𝓤 _ (emp 𝓤))
-      (let x = a .1 .0 in walk 𝓤 H A W mem run (κs .0) (κs .1 .0) (qs .0) (qs .1 .0) (a .0) (x .ptr .0) (x .ptr .1) (x .name) (x .now) (are .0 .0 .1) (are .1 .0 .0 .1) (𝓣 .C) (𝓣 .Λ) (fmOf 𝓤 H (W .laws) 𝓣) known-findings known-numbers))
+module _ {M : Type 1} (𝓤 : URA M) (H : Heap 𝓤) (A : Atoms 𝓤) (W : Given 𝓤 H A) (mem : Memory → SProp 𝓤) (run : Routine → Fun 𝓤) (𝓣 : Tables 𝓤 H)
+    (known-findings : Triple 𝓤 (𝓣 .C #findings·findings) (Findings 𝓤 H A mem run)) (known-numbers : Triple 𝓤 (𝓣 .C #answers·report·numbers) (Numbers 𝓤 H A mem run))
+  where
+    ring-findings-walks : Walks 𝓤 H A ring_findings.ended stayed (WpFn 𝓤 H (𝓣 .C) (𝓣 .Λ) code.function) (ring_findings.clauses 𝓤 H A mem run)
+    ring-findings-walks = walked 𝓤 H A ring_findings.ended stayed (ring_findings.clauses 𝓤 H A mem run) (WpFn 𝓤 H (𝓣 .C) (𝓣 .Λ) code.function)
+        (λ κs. (slice-vals, (slice-vals, tt))) (λ κs. (shr-slice-tells (named 0) (κs .0) u32, (mut-slice-tells (named 1) (κs .1 .0) R, tt)))
+        (λ κs qs bounds a g are. via 𝓤 _ (fst∗ 𝓤 _ (emp 𝓤))
+        (let x = a .1 .0 in walk 𝓤 H A W mem run (κs .0) (κs .1 .0) (qs .0) (qs .1 .0) (a .0) (x .ptr .0) (x .ptr .1) (x .name) (x .now) (are .0 .0 .1)
+        (are .1 .0 .0 .1) (𝓣 .C) (𝓣 .Λ) (fmOf 𝓤 H (W .laws) 𝓣) known-findings known-numbers))
 
-  ring-findings-meets : Meets 𝓤 H A ring_findings.signature (WpFn 𝓤 H (𝓣 .C) (𝓣 .Λ) code.function) (ring_findings.spec 𝓤 H A mem run)
-  ring-findings-meets =
-      walk-meets 𝓤 H A ring_findings.ended stayed W (goes-none-slice 𝓤 H A W 2 (0 ∷ []) tt (plain (λ _. u32)) yes, (goes-gave-slice 𝓤 H A W 2 1 tt (plain (λ _. R)), tt)) (ring_findings.clauses 𝓤 H A mem run)
-      (WpFn 𝓤 H (𝓣 .C) (𝓣 .Λ) code.function) (WpFn-mono 𝓤 H (W .laws) 𝓣 code.function) ring-findings-walks
+    ring-findings-meets : Meets 𝓤 H A ring_findings.signature (WpFn 𝓤 H (𝓣 .C) (𝓣 .Λ) code.function) (ring_findings.spec 𝓤 H A mem run)
+    ring-findings-meets =
+        walk-meets 𝓤 H A ring_findings.ended stayed W (
+          goes-none-slice 𝓤 H A W 2 (0 ∷ []) tt (plain (λ _. u32)) yes,
+          (goes-gave-slice 𝓤 H A W 2 1 tt (plain (λ _. R)), tt),
+        ) (ring_findings.clauses 𝓤 H A mem run)
+        (WpFn 𝓤 H (𝓣 .C) (𝓣 .Λ) code.function) (WpFn-mono 𝓤 H (W .laws) 𝓣 code.function) ring-findings-walks
 
 pub ring-findings-spec : {M : Type 1} → stated.statement M
 unfolding code.routine tablesOf
@@ -193,4 +208,4 @@ ring-findings-spec 𝓤 H 𝓜 𝓖 𝓡 =
     (tables 𝓤 H 𝓜 𝓡 code.env .C) (tables 𝓤 H 𝓜 𝓡 code.env .Λ) #capi·ring_findings code.function (code.unfolded 𝓤 H 𝓜 𝓡)
     (ring-findings-meets 𝓤 H (𝓖 .A) (givenOf 𝓤 H 𝓜 𝓖) (𝓜 .mem) (𝓡 .run) (tablesOf 𝓤 H 𝓜 (tables 𝓤 H 𝓜 𝓡 code.env))
     (cited 𝓤 H (Findings 𝓤 H (𝓖 .A) (𝓜 .mem) (𝓡 .run)) 𝓜 𝓡 code.env #findings·findings findings-def.routine code.calls-findings·findings (findings-thm.met 𝓤 H 𝓜 𝓖 𝓡))
-    (cited 𝓤 H (Numbers 𝓤 H (𝓖 .A) (𝓜 .mem) (𝓡 .run)) 𝓜 𝓡 code.env #report·numbers numbers-def.routine code.calls-report·numbers (numbers-thm.met 𝓤 H 𝓜 𝓖 𝓡)))
+    (cited 𝓤 H (Numbers 𝓤 H (𝓖 .A) (𝓜 .mem) (𝓡 .run)) 𝓜 𝓡 code.env #answers·report·numbers numbers-def.routine code.calls-answers·report·numbers (numbers-thm.met 𝓤 H 𝓜 𝓖 𝓡)))

@@ -1,7 +1,7 @@
 -- `ring_held` meets its contract. Assumes nothing.
 use mathlib.Core.Path.{ap, _∙_}
 use borrow.Author.Needs.{needs}
-use Rattle.runs.specs.Answers.{packed}
+use Rattle.answers.specs.Runs.{packed}
 use Rattle.capi.proofs.ring_held.Statement.{statement}
 use Rattle.capi.proofs.ring_held.Tie as tie
 

@@ -1,7 +1,7 @@
 -- `ring_principal` meets its contract. Assumes nothing.
 use mathlib.Core.Path.{ap, _∙_}
 use borrow.Author.Needs.{needs}
-use Rattle.answer.specs.Packed.{packed}
+use Rattle.answers.specs.Packed.{packed}
 use Rattle.capi.proofs.ring_principal.Statement.{statement}
 use Rattle.capi.proofs.ring_principal.Tie as tie
 

@@ -8,7 +8,7 @@ use Rattle.model.specs.Table.{tableOf}
 use Rattle.model.specs.Answer.{accepted}
 use Rattle.model.specs.Steps.{without}
 use Rattle.model.specs.Calls.{writtenFreed, failAnswer, failWords}
-use Rattle.refusal.proofs.Laws.{Called, called, refused, refused-call}
+use Rattle.standing.proofs.Laws.{Called, called, refused, refused-call}
 use Rattle.depart.proofs.fail.Statement.{statement}
 use Rattle.depart.proofs.fail.Tie as tie
 
@@ -27,8 +27,10 @@ returns c =
     let r = c .before .before in
     let k = r .before .before .before in
     let g = granted k in
-    let T = tableOf (start (k .before .before) .args .t .now) in
-    (rw (g .granted) (r .gone .ensures .0 ∙ ap (λ (x : ℕ). accepted (length (without x T .members) ∷ [])) (g .stands .has-id)), rw (g .granted) (r .gone .ensures .1 ∙ ap (λ (x : ℕ). writtenFreed (without x T) (start (k .before .before) .args .t .now)) (g .stands .has-id)))
+    let T = tableOf (start (k .before .before) .args .t .now) in (
+      rw (g .granted) (r .gone .ensures .0 ∙ ap (λ (x : ℕ). accepted (length (without x T .members) ∷ [])) (g .stands .has-id)),
+      rw (g .granted) (r .gone .ensures .1 ∙ ap (λ (x : ℕ). writtenFreed (without x T) (start (k .before .before) .args .t .now)) (g .stands .has-id)),
+    )
 
 returns-2 : tie.Need-returns-2
 unfolding failAnswer failWords

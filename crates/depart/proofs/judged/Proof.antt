@@ -8,7 +8,7 @@ use lib.ListN.{getD}
 use Rattle.model.specs.Table.{Table, tableOf, membersIn, ids}
 use Rattle.model.specs.Ring.{live}
 use Rattle.model.specs.Steps.{without}
-use Rattle.table.specs.Formed.{Formed}
+use Rattle.table.specs.FormedWords.{FormedWords}
 use Rattle.table.proofs.Place.{own-place, stands-live}
 use Rattle.depart.proofs.Laws.{copied-table, copied-formed, copied-count, removed-facts, left-causes}
 use Rattle.depart.proofs.judged.Statement.{statement}
@@ -28,14 +28,14 @@ present s = stands-live (s .pre .0) (own-place (s .args .t .now) (s .args .k) (s
 same : (c : tie.After-copy-table) → tableOf (c .copy-table .last .0) ≡ tableOf (start c .args .t .now)
 same c = let s = start c in copied-table (s .args .t .now) (c .copy-table .last .0) (s .pre .0) (c .copy-table .ensures .0)
 
-well : (c : tie.After-copy-table) → Formed (c .copy-table .last .0)
+well : (c : tie.After-copy-table) → FormedWords (c .copy-table .last .0)
 well c = let s = start c in copied-formed (s .args .t .now) (c .copy-table .last .0) (s .pre .0) (c .copy-table .ensures .0) (c .copy-table .ensures .1)
 
 within : (c : tie.After-copy-table) → start c .args .k < getD (c .copy-table .last .0) 1 0
 within c = let s = start c in subst (λ (n : ℕ). s .args .k < n) (sym (copied-count (s .args .t .now) (c .copy-table .last .0) (s .pre .0) (c .copy-table .ensures .0))) (s .pre .1)
 
 -- and after it
-gone : (c : tie.After-remove-at) → let s = start (c .before .before) in Formed (c .remove-at .last .0) × (tableOf (c .remove-at .last .0) ≡ without (goer s) (tableOf (s .args .t .now)))
+gone : (c : tie.After-remove-at) → let s = start (c .before .before) in FormedWords (c .remove-at .last .0) × (tableOf (c .remove-at .last .0) ≡ without (goer s) (tableOf (s .args .t .now)))
 gone c =
     let b = c .before .before in
     let s = start b in

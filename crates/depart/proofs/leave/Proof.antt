@@ -4,7 +4,7 @@ use borrow.Author.Needs.{needs}
 use Rattle.model.specs.Refusals.{leaveRefusal}
 use Rattle.model.specs.Calls.{leaveAnswer, leaveWords}
 use Rattle.laws.specs.Accepted.{declined-answer, unchanged}
-use Rattle.refusal.proofs.Laws.{Called, called, refused}
+use Rattle.standing.proofs.Laws.{Called, called, refused}
 use Rattle.depart.proofs.Laws.{member-refused}
 use Rattle.depart.proofs.leave.Statement.{statement}
 use Rattle.depart.proofs.leave.Tie as tie

@@ -17,7 +17,7 @@ start c = lists c .before .before .before .before .before .before .before
 
 -- a member's field
 sized : (c : tie.After-image-count) → c .before .field-size .result ≡ fieldSize (lists c .image-r .result)
-sized c = c .before .field-size .ensures (lists c .image-r .result) (c .before .before .width .ensures)
+sized c = c .before .field-size .ensures (lists c .image-r .result) (c .before .before .record-size .ensures)
 
 -- all the bytes of the members' fields
 all-small : (c : tie.After-image-count) → c .image-count .result * c .before .field-size .result ≤ 65535 * fieldSize 255
@@ -29,7 +29,14 @@ known c =
     let h = lists c .before in
     let o = h .before .before in
     let w : c .before .field-size .result ≡ fieldSize (imageR (start c .args .image .now)) = sized c ∙ ap fieldSize (lists c .image-r .ensures .0) in
-    record { some-way = o .before .before .if1 .left; past-first = o .before .if2 .left; whole = o .if3 .left; head = sym (h .before .head-is .ensures) ∙ h .if4 .taken; one = w; together = ap₂ (λ (n k : ℕ). n * k) (c .image-count .ensures .0) w }
+    record {
+      some-way = o .before .before .if1 .left;
+      past-first = o .before .if2 .left;
+      whole = o .if3 .left;
+      head = sym (h .before .head-is .ensures) ∙ h .if4 .taken;
+      one = w;
+      together = ap₂ (λ (n k : ℕ). n * k) (c .image-count .ensures .0) w;
+    }
 
 returns : tie.Need-returns
 returns c = c .field-here .ensures ∙ first-due _ _ (c .before .if1 .taken)
@@ -63,7 +70,8 @@ returns-6 c =
     let k = c .before .before .before .before .before in
     let a = start k .args in
     let size = c .before .member-length .ensures ∙ ap memberLength (lists k .image-r .ensures .0) in
-    c .field-here3 .ensures ∙ ap (λ (n : ℕ). fieldReply (a .image .now) (a .at) (record { tag = 2; length = n })) size ∙ member-due (known k) (c .before .before .before .if6 .left) (c .before .before .before .before .if5 .left) (c .before .before .if7 .taken)
+    c .field-here3 .ensures ∙ ap (λ (n : ℕ). fieldReply (a .image .now) (a .at) (record { tag = 2; length = n })) size
+    ∙ member-due (known k) (c .before .before .before .if6 .left) (c .before .before .before .before .if5 .left) (c .before .before .if7 .taken)
 
 returns-7 : tie.Need-returns-7
 returns-7 c = within (known (c .before .before .before)) (c .before .if6 .left) (c .before .before .if5 .left) (c .if7 .left)
@@ -73,4 +81,6 @@ returns-8 c = let o = c .before .before in other-head _ _ (o .before .before .if
 
 pub field-at-spec : {M : Type 1} → statement M
 field-at-spec =
-    tie.close (tie.spec (λ c κs. search needs) returns returns-2 returns-3 (λ c κs. search needs) (λ c κs. search needs) (λ c. search needs) (λ c κs. search needs) (λ c κs. search needs) mul-all field-here-requires-2 returns-4 returns-5 rem-if7 (λ c κs. search needs) field-here-requires-3 returns-6 returns-7 returns-8)
+    tie.close (tie.spec (λ c κs. search needs) returns returns-2 returns-3 (λ c κs. search needs) (λ c κs. search needs) (λ c. search needs)
+    (λ c κs. search needs) (λ c κs. search needs) mul-all field-here-requires-2 returns-4 returns-5 rem-if7 (λ c κs. search needs) field-here-requires-3
+    returns-6 returns-7 returns-8)

@@ -15,7 +15,7 @@ start c = c .before .before
 small : (c : tie.After-field-size) → let a = start c .args in (a .n * c .field-size .result ≡ a .n * fieldSize (a .r)) × (a .n * c .field-size .result ≤ 256 * fieldSize 8)
 small c =
     let s = start c in
-    most-bytes (s .args .n) (s .args .r) (c .field-size .result) (s .pre .1) (s .pre .0) (c .field-size .ensures (s .args .r) (c .before .width .ensures))
+    most-bytes (s .args .n) (s .args .r) (c .field-size .result) (s .pre .1) (s .pre .0) (c .field-size .ensures (s .args .r) (c .before .record-size .ensures))
 
 mul-result : tie.Need-mul-result
 mul-result c = omega (arith, small c)

@@ -8,7 +8,7 @@ use Rattle.fields.proofs.member_length.Tie as tie
 
 -- the whole field
 field : (c : tie.After-field-size) → c .field-size .result ≡ fieldSize (c .before .before .args .r)
-field c = c .field-size .ensures (c .before .before .args .r) (c .before .width .ensures)
+field c = c .field-size .ensures (c .before .before .args .r) (c .before .record-size .ensures)
 
 sub-result : tie.Need-sub-result
 sub-result c = omega (arith, field c)

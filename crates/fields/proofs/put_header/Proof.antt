@@ -2,7 +2,7 @@
 use mathlib.Core.Path.{_∙_}
 use native.Mathlib.Omega.{arith}
 use lib.ListN.{length-set}
-use Rattle.fields.proofs.Fields.{header-written}
+use Rattle.fields.proofs.Fields.{header-placed}
 use borrow.Author.Needs.{needs}
 use Rattle.fields.proofs.put_header.Statement.{statement}
 use Rattle.fields.proofs.put_header.Tie as tie
@@ -23,8 +23,9 @@ returns : tie.Need-returns
 returns c =
     let head = c .before .before .before .before .before .before in
     let a = head .before .before .before .args in
-    header-written (a .r) (a .n) (a .steps) (a .out .now) (head .put-head .last .0) _ (omega arith) (head .put-head .ensures) (c .before .before .put4 .ensures)
+    header-placed (a .r) (a .n) (a .steps) (a .out .now) (head .put-head .last .0) _ (omega arith) (head .put-head .ensures) (c .before .before .put4 .ensures)
 
 pub put-header-spec : {M : Type 1} → statement M
 put-header-spec =
-    tie.close (tie.spec (λ c κs. search needs) (λ c. search needs) (λ c. search needs) (λ c. search needs) slice-write-out-2 (λ c. search needs) (λ c. search needs) slice-write-out-3 put4-requires same-length returns)
+    tie.close (tie.spec (λ c κs. search needs) (λ c. search needs) (λ c. search needs) (λ c. search needs) slice-write-out-2 (λ c. search needs)
+    (λ c. search needs) slice-write-out-3 put4-requires same-length returns)

@@ -3,7 +3,7 @@ use mathlib.Core.Path.{_∙_}
 use native.Mathlib.Omega.{arith}
 use lib.ListN.{length-set, length-take, length-drop}
 use Rattle.laws.specs.Parts.{part-from}
-use Rattle.fields.proofs.Fields.{record-read}
+use Rattle.fields.proofs.Fields.{record-placed}
 use borrow.Author.Needs.{needs}
 use Rattle.fields.proofs.read_field.Statement.{statement}
 use Rattle.fields.proofs.read_field.Tie as tie
@@ -21,8 +21,11 @@ returns : tie.Need-returns
 returns c =
     let two = c .before .before .before .before .before .before .before .before .before in
     let a = two .before .before .before .before .before .args in
-    record-read (a .at) (a .r) (a .bs .now) (a .t .now) (two .get-words .last .0) _ (omega arith) (omega arith) (rw part-from at (two .get-words .ensures)) (rw (part-from, c .before .before .before .width .ensures) at (c .before .before .get-words2 .ensures))
+    record-placed (a .at) (a .r) (a .bs .now) (a .t .now) (two .get-words .last .0) _ (omega arith) (omega arith) (rw part-from at (two .get-words .ensures))
+    (rw (part-from, c .before .before .before .record-size .ensures) at (c .before .before .get-words2 .ensures))
 
 pub read-field-spec : {M : Type 1} → statement M
 read-field-spec =
-    tie.close (tie.spec (λ c. search needs) (λ c. search needs) (λ c. search needs) (λ c κs. search needs) (λ c. search needs) cast-t (λ c. search needs) (λ c. search needs) (λ c. search needs) (λ c. search needs) (λ c. search needs) (λ c. search needs) (λ c. search needs) (λ c κs. search needs) (λ c. search needs) get-words-requires-2 same-length returns)
+    tie.close (tie.spec (λ c. search needs) (λ c. search needs) (λ c. search needs) (λ c κs. search needs) (λ c. search needs) cast-t (λ c. search needs)
+    (λ c. search needs) (λ c. search needs) (λ c. search needs) (λ c. search needs) (λ c. search needs) (λ c. search needs) (λ c κs. search needs)
+    (λ c. search needs) get-words-requires-2 same-length returns)

@@ -4,7 +4,7 @@ use native.Mathlib.Omega.{arith}
 use borrow.Author.Needs.{needs}
 use Rattle.model.specs.Table.{membersIn}
 use Rattle.model.specs.Ring.{principals, ringMembers}
-use Rattle.ring.proofs.Laws.{member-count}
+use Rattle.best_successors.proofs.Laws.{member-count}
 use Rattle.principal.proofs.Pairs.{counted-principals}
 use Rattle.finding.proofs.Surveys.{counted-ring}
 use Rattle.finding.proofs.survey_of.Statement.{statement}
@@ -30,9 +30,13 @@ returns c =
     let p = c .before .before .before .before .before .before in
     let a = p .before in
     let s = start a in
-    let ws = s .args .t .now in
-    (record { table = λ h. s .pre; most = omega arith; principals = p .principal-bits .ensures; ways = a .all-moves .ensures }, refl, rw (counted (c .before .before), ring (c .before .before .before .before), c .verdict-of .ensures, member-count ws))
+    let ws = s .args .t .now in (
+      record { table = λ h. s .pre; most = omega arith; principals = p .principal-bits .ensures; ways = a .all-moves .ensures },
+      refl,
+      rw (counted (c .before .before), ring (c .before .before .before .before), c .verdict-of .ensures, member-count ws),
+    )
 
 pub survey-of-spec : {M : Type 1} → statement M
 survey-of-spec =
-    tie.close (tie.spec (λ c. search needs) (λ c. search needs) (λ c κs. search needs) (λ c κs. search needs) (λ c κs. search needs) (λ c κs. search needs) (λ c. search needs) verdict-of-requires (λ c. search needs) (λ c. search needs) (λ c. search needs) returns)
+    tie.close (tie.spec (λ c. search needs) (λ c. search needs) (λ c κs. search needs) (λ c κs. search needs) (λ c κs. search needs) (λ c κs. search needs)
+    (λ c. search needs) verdict-of-requires (λ c. search needs) (λ c. search needs) (λ c. search needs) returns)

@@ -1,6 +1,6 @@
 -- `fill` meets its contract: a walk of its MIR, by hand, with a loop. The borrow of out is opened once, before the loop, and closed once, after it.
--- Between the two the records are the function's own: after k turns they are `filled ms k ys`, the records at entry with the first k findings written.
--- The survey's two arrays are copied to locals and stay apart as rows of numbers. A turn takes number k out of each row, reads it and puts it back, calls
+-- Between the two the records are the function's own: after k iterations they are `filled ms k ys`, the records at entry with the first k findings written.
+-- The survey's two arrays are copied to locals and stay apart as rows of numbers. An iteration takes number k out of each row, reads it and puts it back, calls
 -- `finding_at`, takes record k out of the records' row, stores the finding and puts it back. Assumes nothing.
 use mathlib.Core.Path.{_≡_, refl, sym, ap, subst}
 use Prim.Native.Nat.{ℕ, _+_, _-_, _*_, _<_, _≤_, _^_, zero-le}
@@ -82,7 +82,7 @@ word = tyInt w64
 abbrev half : Ty
 half = tyInt w16
 
--- a turn behind its two readings
+-- an iteration behind its two readings
 abbrev behind : Body → Body
 behind t = tail (tail (tail (tail (tail (tail (tail (tail (tail (tail t)))))))))
 
@@ -90,7 +90,8 @@ behind t = tail (tail (tail (tail (tail (tail (tail (tail (tail (tail t)))))))))
 abbrev FindingAt : {M : Type 1} (𝓤 : URA M) (H : Heap 𝓤) (A : Atoms 𝓤) (mem : Memory → SProp 𝓤) (run : Routine → Fun 𝓤) → Contract 𝓤
 FindingAt 𝓤 H A mem run = tripleOf 𝓤 H A finding-at.signature (finding-at.spec 𝓤 H A mem run)
 
-module _ {M : Type 1} (𝓤 : URA M) (H : Heap 𝓤) (A : Atoms 𝓤) (W : Given 𝓤 H A) (mem : Memory → SProp 𝓤) (run : Routine → Fun 𝓤) (κ κ′ : Lft) (q q′ : Share) (w : RefT (List ℕ)) (sv : Survey) (b o : ℕ) (γ : GName) (ys : List Finding)
+module _ {M : Type 1} (𝓤 : URA M) (H : Heap 𝓤) (A : Atoms 𝓤) (W : Given 𝓤 H A) (mem : Memory → SProp 𝓤) (run : Routine → Fun 𝓤) (κ κ′ : Lft) (q q′ : Share)
+    (w : RefT (List ℕ)) (sv : Survey) (b o : ℕ) (γ : GName) (ys : List Finding)
     (roomʷ : Room u32 (length (w .now))) (gs : Is S sv (surveyVal sv ∷ [])) (room : Room R (length ys)) (pre : Surveyed (w .now) sv × (sv .members ≤ length ys)) where
   abbrev x : List Finding → RefT (List Finding)
   x l = record { ptr = (b, o); name = γ; now = l }
@@ -136,11 +137,13 @@ module _ {M : Type 1} (𝓤 : URA M) (H : Heap 𝓤) (A : Atoms 𝓤) (W : Given
   exits : ent 𝓤 (⋆ 𝓤 H A (‵ (fobs γ (codedHoleys R .code (heres R zs))) ∷ ‵ (fbor κ′ (Held R (length zs) b o γ)) ∷ ‵ (flft κ′ q′) ∷ ‵ OwnT ∷ (‵ (flft κ q) ⊛ ‵ ftrue) ∷ [])) (Post vunit)
   exits =
       qed W (‵ (fobs γ (codedHoleys R .code (heres R zs))) ∷ ‵ (fbor κ′ (Held R (length zs) b o γ)) ∷ ‵ (flft κ′ q′) ∷ ‵ OwnT ∷ (‵ (flft κ q) ⊛ ‵ ftrue) ∷ []) ∵
-      suffices ! _ (ends-at 𝓤 H A fill.ended stayed (fill.clauses 𝓤 H A mem run) W (((κ, (κ′, tt)), (q, (q′, tt)), tt, a, at), tt) vunit tt (tt, (tt, (zs, tt))) (tt, (tt, (filled-length ms ys n, tt)))) $ says ! refl $
+      suffices ! _ (ends-at 𝓤 H A fill.ended stayed (fill.clauses 𝓤 H A mem run) W (((κ, (κ′, tt)), (q, (q′, tt)), tt, a, at), tt) vunit tt
+      (tt, (tt, (zs, tt))) (tt, (tt, (filled-length ms ys n, tt)))) $ says ! refl $
       -- [obs; the borrow; out's token; t; t's token]
       move ! (4 ∷ []) $ split ! $ move ! (4 ∷ 1 ∷ []) $ join ! $ move ! (1 ∷ 0 ∷ []) $ join ! $ frame ! $
       -- [obs; the borrow; t]
-      fjoin ! $ pureI ! (at-slice R (x zs) (s ∷ [])) (tt, (tt, tt)) (ap (λ (k : ℕ). sliceVal (b, o) k ∷ []) (sym (filled-length ms ys n)), subst (Room R) (sym (filled-length ms ys n)) room) $ fjoin ! $
+      fjoin ! $ pureI ! (at-slice R (x zs) (s ∷ [])) (tt, (tt, tt))
+      (ap (λ (k : ℕ). sliceVal (b, o) k ∷ []) (sym (filled-length ms ys n)), subst (Room R) (sym (filled-length ms ys n)) room) $ fjoin ! $
       nothing ! $ move ! (1 ∷ 0 ∷ []) $ fjoin ! $ owned ! S (Is S) (LL.makes U.the-type U′.the-plain 𝓤 H A) sv _ gs $ fjoin ! $ move ! (1 ∷ 0 ∷ []) $ fjoin ! $ frame ! $
       feqI ! (List Val) (vunit ∷ []) (vunit ∷ []) refl $ done !
 
@@ -203,11 +206,13 @@ module _ {M : Type 1} (𝓤 : URA M) (H : Heap 𝓤) (A : Atoms 𝓤) (W : Given
     Λ = 𝓣 .Λ
 
     abbrev En : Env 𝓤 H
-    En = (tyUnit, l₀) ∷ (tTy, l₁) ∷ (U′.mir, l₂) ∷ (outTy, l₃) ∷ (word, l₄) ∷ (numbersTy, l₅) ∷ (numbersTy, l₆) ∷ (word, l₇) ∷ (T′.mir, l₈) ∷ (tyBool, l₉) ∷ (word, l₁₀) ∷ (tyPtr, l₁₁) ∷ (tyPtr, l₁₂) ∷ (half, l₁₃) ∷ (word, l₁₄) ∷ (tyPtr, l₁₅) ∷ (tyPtr, l₁₆) ∷ (half, l₁₇) ∷ (tyPtr, l₁₈) ∷ []
+    En = (tyUnit, l₀) ∷ (tTy, l₁) ∷ (U′.mir, l₂) ∷ (outTy, l₃) ∷ (word, l₄) ∷ (numbersTy, l₅) ∷ (numbersTy, l₆) ∷ (word, l₇) ∷ (T′.mir, l₈) ∷ (tyBool, l₉)
+        ∷ (word, l₁₀) ∷ (tyPtr, l₁₁) ∷ (tyPtr, l₁₂) ∷ (half, l₁₃) ∷ (word, l₁₄) ∷ (tyPtr, l₁₅) ∷ (tyPtr, l₁₆) ∷ (half, l₁₇) ∷ (tyPtr, l₁₈) ∷ []
 
-    -- the locals that outlive a turn, at k: _7; …; of _6 and _5, which lie apart as rows, the right to be freed; _4; …; _3; …; _2; …; _1; …; room for _0; …
+    -- the locals that outlive an iteration, at k: _7; …; of _6 and _5, which lie apart as rows, the right to be freed; _4; …; _3; …; _2; …; _1; …; room for _0; …
     abbrev Stay : ℕ → List (Item 𝓤)
-    Stay k = ‵ (fat fullShare word l₇ 0 (vint w64 k)) ∷ ‵ (fdies word l₇) ∷ ‵ (fdies numbersTy l₆) ∷ ‵ (fdies numbersTy l₅) ∷ ‵ (fat fullShare word l₄ 0 (vint w64 n)) ∷ ‵ (fdies word l₄) ∷ ‵ (fat fullShare outTy l₃ 0 s)
+    Stay k = ‵ (fat fullShare word l₇ 0 (vint w64 k)) ∷ ‵ (fdies word l₇) ∷ ‵ (fdies numbersTy l₆) ∷ ‵ (fdies numbersTy l₅)
+        ∷ ‵ (fat fullShare word l₄ 0 (vint w64 n)) ∷ ‵ (fdies word l₄) ∷ ‵ (fat fullShare outTy l₃ 0 s)
         ∷ ‵ (fdies outTy l₃) ∷ ‵ (fat fullShare U′.mir l₂ 0 m) ∷ ‵ (fdies U′.mir l₂) ∷ ‵ (fat fullShare tTy l₁ 0 v) ∷ ‵ (fdies tTy l₁) ∷ ‵ (froom tyUnit l₀ 0) ∷ ‵ (fdies tyUnit l₀) ∷ []
 
     -- the invariant
@@ -223,12 +228,15 @@ module _ {M : Type 1} (𝓤 : URA M) (H : Heap 𝓤) (A : Atoms 𝓤) (W : Given
     abbrev Mid : Upto → List (Item 𝓤)
     Mid k = ‵ (row u16 fullShare (sv .moves) l₆ 0) ∷ ‵ (row u16 fullShare (sv .principal) l₅ 0) ∷ ‵ (row R fullShare (filled ms (k .0) ys) b o)
         ∷ ‵ (fobor κ′ q′ (Held R (length ys) b o γ)) ∷ ‵ (fobs γ (codedHoleys R .code (heres R ys))) ∷ ‵ (fauth γ (codedHoleys R .code (heres R ys))) ∷ ‵ OwnT ∷ (‵ (flft κ q) ⊛ ‵ ftrue)
-        ∷ ‵ (froom tyPtr l₁₈ 0) ∷ ‵ (fdies tyPtr l₁₈) ∷ ‵ (fat fullShare half l₁₇ 0 (vint w16 (mk (k .0)))) ∷ ‵ (fdies half l₁₇) ∷ ‵ (fat fullShare tyPtr l₁₆ 0 (vptr l₆ (place 2 0 (k .0)))) ∷ ‵ (fdies tyPtr l₁₆)
-        ∷ ‵ (fat fullShare tyPtr l₁₅ 0 (vptr l₆ 0)) ∷ ‵ (fdies tyPtr l₁₅) ∷ ‵ (fat fullShare word l₁₄ 0 (vint w64 (k .0 * 2))) ∷ ‵ (fdies word l₁₄) ∷ ‵ (fat fullShare half l₁₃ 0 (vint w16 (pk (k .0)))) ∷ ‵ (fdies half l₁₃)
-        ∷ ‵ (fat fullShare tyPtr l₁₂ 0 (vptr l₅ (place 2 0 (k .0)))) ∷ ‵ (fdies tyPtr l₁₂) ∷ ‵ (fat fullShare tyPtr l₁₁ 0 (vptr l₅ 0)) ∷ ‵ (fdies tyPtr l₁₁) ∷ ‵ (fat fullShare word l₁₀ 0 (vint w64 (k .0 * 2))) ∷ ‵ (fdies word l₁₀)
+        ∷ ‵ (froom tyPtr l₁₈ 0) ∷ ‵ (fdies tyPtr l₁₈) ∷ ‵ (fat fullShare half l₁₇ 0 (vint w16 (mk (k .0)))) ∷ ‵ (fdies half l₁₇)
+        ∷ ‵ (fat fullShare tyPtr l₁₆ 0 (vptr l₆ (place 2 0 (k .0)))) ∷ ‵ (fdies tyPtr l₁₆)
+        ∷ ‵ (fat fullShare tyPtr l₁₅ 0 (vptr l₆ 0)) ∷ ‵ (fdies tyPtr l₁₅) ∷ ‵ (fat fullShare word l₁₄ 0 (vint w64 (k .0 * 2))) ∷ ‵ (fdies word l₁₄)
+        ∷ ‵ (fat fullShare half l₁₃ 0 (vint w16 (pk (k .0)))) ∷ ‵ (fdies half l₁₃)
+        ∷ ‵ (fat fullShare tyPtr l₁₂ 0 (vptr l₅ (place 2 0 (k .0)))) ∷ ‵ (fdies tyPtr l₁₂) ∷ ‵ (fat fullShare tyPtr l₁₁ 0 (vptr l₅ 0)) ∷ ‵ (fdies tyPtr l₁₁)
+        ∷ ‵ (fat fullShare word l₁₀ 0 (vint w64 (k .0 * 2))) ∷ ‵ (fdies word l₁₀)
         ∷ ‵ (fat fullShare tyBool l₉ 0 (vbool (ltb (k .0) n))) ∷ ‵ (fdies tyBool l₉) ∷ ‵ (froom T′.mir l₈ 0) ∷ ‵ (fdies T′.mir l₈) ∷ Stay (k .0)
 
-    -- a turn's postcondition: it ends nearer to n, or the loop is left and the rest of the body runs
+    -- an iteration's postcondition: it ends nearer to n, or the loop is left and the rest of the body runs
     abbrev Turned : Upto → Out → SProp 𝓤
     Turned k = afterTurn 𝓤 H (Below 𝓤 H A Nearer At k) (afterBlock 𝓤 H (afterSeq 𝓤 H (Wp 𝓤 H C Λ En mir.t-6 (atReturn 𝓤 H En Post)) (atReturn 𝓤 H En Post)))
 
@@ -258,8 +266,11 @@ module _ {M : Type 1} (𝓤 : URA M) (H : Heap 𝓤) (A : Atoms 𝓤) (W : Given
         -- [what is lent; t; the moves; the principals; the row; the open borrow; obs; auth; the token; _18; …]
         move ! (8 ∷ 0 ∷ []) $ use2 W (raw (FindingAt 𝓤 H A mem run .pre (to (k .0)))) (asked (k .0) less) $
         calls-at ! (fmOf 𝓤 H (W .laws) 𝓣) (FindingAt 𝓤 H A mem run) known (to (k .0))
-        (and-then ! (load ! (from ! (stop !)) (look ! 40 refl)) (and-then ! (load ! (from ! (stop !)) (look ! 18 refl)) (and-then ! (load ! (from ! (stop !)) (look ! 10 refl)) (and-then ! (load ! (from ! (stop !)) (look ! 30 refl)) (no-more !))))) (λ u.
-        use1 W (later (some (λ (f : Finding). ((‵ (flft κ q) ⊛ ‵ ftrue) ⊛ ‵ (R .own f (u ∷ []))) ⊛ raw (ensured 𝓤 H A finding-at.ended (finding-at.clauses 𝓤 H A mem run) (κ, tt) (args (k .0)) tt f)))) (id⊢ 𝓤 _) $ await ! tt $ pick ! (λ f.
+        (and-then ! (load ! (from ! (stop !)) (look ! 40 refl))
+        (and-then ! (load ! (from ! (stop !)) (look ! 18 refl))
+        (and-then ! (load ! (from ! (stop !)) (look ! 10 refl)) (and-then ! (load ! (from ! (stop !)) (look ! 30 refl)) (no-more !))))) (λ u.
+        use1 W (later (some (λ (f : Finding). ((‵ (flft κ q) ⊛ ‵ ftrue) ⊛ ‵ (R .own f (u ∷ [])))
+        ⊛ raw (ensured 𝓤 H A finding-at.ended (finding-at.clauses 𝓤 H A mem run) (κ, tt) (args (k .0)) tt f)))) (id⊢ 𝓤 _) $ await ! tt $ pick ! (λ f.
         split ! $ move ! (1 ∷ []) $ use1 W (raw (fact 𝓤 (Seen (k .0) f))) (said (k .0) f) $ heard ! (Seen (k .0) f) (λ e. split ! $ move ! (1 ∷ []) $
         -- [the finding; the token; t; the moves; the principals; the row; the open borrow; obs; auth; _18; …]
         peeks ! R (Is R) (shows 𝓤 H A R) f (u ∷ []) (λ is.
@@ -271,17 +282,21 @@ module _ {M : Type 1} (𝓤 : URA M) (H : Heap 𝓤) (A : Atoms 𝓤) (W : Given
         -- [out[k]; what it owns; the others; the finding; the token; t; the moves; the principals; the open borrow; obs; auth; _18; …]
         assigns ! (of-opd ! (load ! (from ! (stop !)) (look ! 31 refl))) (from ! (hop ! (look ! 11 refl) (stop !))) (store-raw ! 0 refl (LL.lawful T.the-type T′.the-laws 𝓤 H A W .typed f _ is .0)) $
         move ! (1 ∷ []) $ drop ! $ move ! (0 ∷ 2 ∷ []) $ elem-put ! R fullShare (filled ms (k .0) ys) (k .0) f (u ∷ []) b o (within k less) $
-        rewrite ! 0 (λ (z : Finding). ‵ (row R fullShare (set (filled ms (k .0) ys) (k .0) z) b o)) (by-view f _ e) refl $ rewrite ! 0 (λ (j : ℕ). ‵ (row R fullShare (filled ms j ys) b o)) (sym (add-one (k .0))) refl $
+        rewrite ! 0 (λ (z : Finding). ‵ (row R fullShare (set (filled ms (k .0) ys) (k .0) z) b o)) (by-view f _ e) refl
+        $ rewrite ! 0 (λ (j : ℕ). ‵ (row R fullShare (filled ms j ys) b o)) (sym (add-one (k .0))) refl $
         -- [the row; the token; t; the moves; the principals; the open borrow; obs; auth; _18; …]
-        assigns-last ! (bin ! (load ! (from ! (stop !)) (look ! 30 refl)) (lit ! tt) (record { fits = fits (next k less) })) (from ! (stop !)) (store ! 30 refl (tt, record { fits = fits (next k less) })) $
-        forget ! 8 refl $ forget ! 10 refl $ forget ! 12 refl $ forget ! 14 refl $ forget ! 16 refl $ forget ! 18 refl $ forget ! 20 refl $ forget ! 22 refl $ forget ! 24 refl $ forget ! 26 refl $ forget ! 28 refl $
+        assigns-last ! (bin ! (load ! (from ! (stop !)) (look ! 30 refl)) (lit ! tt) (record { fits = fits (next k less) })) (from ! (stop !))
+        (store ! 30 refl (tt, record { fits = fits (next k less) })) $
+        forget ! 8 refl $ forget ! 10 refl $ forget ! 12 refl $ forget ! 14 refl $ forget ! 16 refl $ forget ! 18 refl $ forget ! 20 refl $ forget ! 22 refl
+        $ forget ! 24 refl $ forget ! 26 refl $ forget ! 28 refl $
         move ! (0 ∷ 5 ∷ 6 ∷ 7 ∷ 2 ∷ 1 ∷ 3 ∷ 4 ∷ []) $
         again ! Nearer At k (next k less) (add-one-dec n (k .0) less))))))
 
     turns : (k : Upto) → Sq W (At k) (runs C Λ En mir.turn-1 (anyQ (Turned k)))
     unfolding afterTurn
     turns k =
-        -- [the row; the open borrow; obs; auth; t; the token; the moves; the principals; _18; …; _17; …; _16; …; _15; …; _14; …; _13; …; _12; …; _11; …; _10; …; _9; …; _8; …; _7; …; then as `Stay` says]
+        -- [the row; the open borrow; obs; auth; t; the token; the moves; the principals; _18; …; _17; …; _16; …; _15; …; _14; …; _13; …; _12; …; _11;
+        -- …; _10; …; _9; …; _8; …; _7; …; then as `Stay` says]
         assigns ! (bin ! (load ! (from ! (stop !)) (look ! 30 refl)) (load ! (from ! (stop !)) (look ! 34 refl)) tt) (from ! (stop !)) (init ! 26 refl (tt, tt)) $
         first ! $ branches ! (load ! (from ! (stop !)) (look ! 26 refl))
         (λ yes′. let less = ltb→lt (k .0) n yes′ in skips ! $ exec ! C Λ En (tail (tail mir.turn-1)) (anyQ (Turned k)) $
@@ -321,28 +336,34 @@ module _ {M : Type 1} (𝓤 : URA M) (H : Heap 𝓤) (A : Atoms 𝓤) (W : Given
     loops-on : Sq W (At (0, zero-le)) (runs C Λ En mir.t-5 (atRet En Post))
     loops-on = first ! $ blocks ! $ loops ! 𝓣 Nearer Nearer-wf At turns (0, zero-le)
 
-  walk : (𝓣 : Tables 𝓤 H) → Triple 𝓤 (𝓣 .C #finding·finding-at) (FindingAt 𝓤 H A mem run) → ent 𝓤 (onEntry 𝓤 H A fill.signature (κ, (κ′, tt)) (q, (q′, tt)) a at) (WpFn 𝓤 H (𝓣 .C) (𝓣 .Λ) code.function (v ∷ m ∷ s ∷ []) Post)
+  walk : (𝓣 : Tables 𝓤 H) → Triple 𝓤 (𝓣 .C #finding·finding-at) (FindingAt 𝓤 H A mem run)
+      → ent 𝓤 (onEntry 𝓤 H A fill.signature (κ, (κ′, tt)) (q, (q′, tt)) a at) (WpFn 𝓤 H (𝓣 .C) (𝓣 .Λ) code.function (v ∷ m ∷ s ∷ []) Post)
   walk 𝓣 known =
       qed W ((‵ (flft κ q) ⊛ ‵ (flft κ′ q′) ⊛ ‵ ftrue) ∷ ‵ (owns (ShrSlice (named 0) κ u32 ∷ S ∷ MutSlice (named 1) κ′ R ∷ []) a at) ∷ []) ∵ enter ! (𝓣 .C) (𝓣 .Λ) code.function (v ∷ m ∷ s ∷ []) _ $
       alloc1 ! (λ l₀. alloc1 ! (λ l₁. alloc1 ! (λ l₂. alloc1 ! (λ l₃. alloc1 ! (λ l₄. alloc1 ! (λ l₅. alloc1 ! (λ l₆. alloc1 ! (λ l₇. alloc1 ! (λ l₈. alloc1 ! (λ l₉.
       alloc1 ! (λ l₁₀. alloc1 ! (λ l₁₁. alloc1 ! (λ l₁₂. alloc1 ! (λ l₁₃. alloc1 ! (λ l₁₄. alloc1 ! (λ l₁₅. alloc1 ! (λ l₁₆. alloc1 ! (λ l₁₇. alloc1 ! (λ l₁₈. alloc0 ! $ params1 ! $
-      pass1 ! (init ! 34 refl (tt, (tt, (record { fits = roomʷ .0 }, tt)))) $ pass1 ! (init ! 32 refl (LL.lawful U.the-type U′.the-laws 𝓤 H A W .typed sv _ gs .0)) $ pass1 ! (init ! 30 refl (tt, (tt, (record { fits = room .0 }, tt)))) $ pass0 ! $
+      pass1 ! (init ! 34 refl (tt, (tt, (record { fits = roomʷ .0 }, tt))))
+      $ pass1 ! (init ! 32 refl (LL.lawful U.the-type U′.the-laws 𝓤 H A W .typed sv _ gs .0))
+      $ pass1 ! (init ! 30 refl (tt, (tt, (record { fits = room .0 }, tt)))) $ pass0 ! $
       -- [_18; …; _17; …; down to _4; …; _3; …; _2; …; _1; …; room for _0; …; the tokens; what the parameters own]
       assigns ! (of-opd ! (load ! (from ! (fld ! refl (stop !))) (look-in ! 32 (sub ! 1 refl (whole !))))) (from ! (stop !)) (init ! 28 refl (tt, record { fits = n-fits })) $
       assigns ! (of-opd ! (load ! (from ! (fld ! refl (stop !))) (look-in ! 32 (sub ! 2 refl (whole !))))) (from ! (stop !)) (init ! 26 refl (field-typed 𝓤 H A W (sv .principal) isP)) $
       assigns ! (of-opd ! (load ! (from ! (fld ! refl (stop !))) (look-in ! 32 (sub ! 3 refl (whole !))))) (from ! (stop !)) (init ! 24 refl (field-typed 𝓤 H A W (sv .moves) isM)) $
       assigns ! (of-opd ! (lit ! tt)) (from ! (stop !)) (init ! 22 refl (tt, record { fits = lit< tt })) $
       -- the two arrays are taken apart
-      move ! (26 ∷ []) $ use1 W (‵ (row u16 fullShare (sv .principal) l₅ 0)) (elements 𝓤 H A W (sv .principal) l₅ isP) $ move ! (25 ∷ []) $ use1 W (‵ (row u16 fullShare (sv .moves) l₆ 0)) (elements 𝓤 H A W (sv .moves) l₆ isM) $
+      move ! (26 ∷ []) $ use1 W (‵ (row u16 fullShare (sv .principal) l₅ 0)) (elements 𝓤 H A W (sv .principal) l₅ isP) $ move ! (25 ∷ [])
+      $ use1 W (‵ (row u16 fullShare (sv .moves) l₆ 0)) (elements 𝓤 H A W (sv .moves) l₆ isM) $
       -- [the moves; the principals; _18; …; _7; …; _6's and _5's rights; _4; …; room for _0; …; the tokens; what the parameters own]
       move ! (39 ∷ []) $ fsplit ! $ move ! (1 ∷ []) $ fsplit ! $ move ! (1 ∷ []) $ fsplit ! $ fsplit ! $ move ! (1 ∷ []) $ fsplit ! $
       -- [obs; the borrow; out's fact; true; the survey; t; the moves; the principals; _18; …; room for _0; …; the tokens]
       move ! (44 ∷ []) $ split ! $ move ! (1 ∷ []) $ split ! $ move ! (2 ∷ 1 ∷ []) $ join ! $ move ! (2 ∷ 3 ∷ 1 ∷ []) $ opens-slice ! tt R ys b o $
       -- [the row; the open borrow; obs; auth; the token; out's fact; true; the survey; t; the moves; the principals; _18; …]
-      keep ! (0 ∷ 1 ∷ 2 ∷ 3 ∷ 8 ∷ 4 ∷ 9 ∷ 10 ∷ 11 ∷ 12 ∷ 13 ∷ 14 ∷ 15 ∷ 16 ∷ 17 ∷ 18 ∷ 19 ∷ 20 ∷ 21 ∷ 22 ∷ 23 ∷ 24 ∷ 25 ∷ 26 ∷ 27 ∷ 28 ∷ 29 ∷ 30 ∷ 31 ∷ 32 ∷ 33 ∷ 34 ∷ 35 ∷ 36 ∷ 37 ∷ 38 ∷ 39 ∷ 40 ∷ 41 ∷ 42 ∷ 43 ∷ 44 ∷ 45 ∷ 46 ∷ []) $
+      keep ! (0 ∷ 1 ∷ 2 ∷ 3 ∷ 8 ∷ 4 ∷ 9 ∷ 10 ∷ 11 ∷ 12 ∷ 13 ∷ 14 ∷ 15 ∷ 16 ∷ 17 ∷ 18 ∷ 19 ∷ 20 ∷ 21 ∷ 22 ∷ 23 ∷ 24 ∷ 25 ∷ 26 ∷ 27 ∷ 28 ∷ 29 ∷ 30 ∷ 31 ∷ 32 ∷ 33
+      ∷ 34 ∷ 35 ∷ 36 ∷ 37 ∷ 38 ∷ 39 ∷ 40 ∷ 41 ∷ 42 ∷ 43 ∷ 44 ∷ 45 ∷ 46 ∷ []) $
       loops-on 𝓣 known l₀ l₁ l₂ l₃ l₄ l₅ l₆ l₇ l₈ l₉ l₁₀ l₁₁ l₁₂ l₁₃ l₁₄ l₁₅ l₁₆ l₁₇ l₁₈)))))))))))))))))))
 
-module _ {M : Type 1} (𝓤 : URA M) (H : Heap 𝓤) (A : Atoms 𝓤) (W : Given 𝓤 H A) (mem : Memory → SProp 𝓤) (run : Routine → Fun 𝓤) (𝓣 : Tables 𝓤 H) (known : Triple 𝓤 (𝓣 .C #finding·finding-at) (FindingAt 𝓤 H A mem run)) where
+module _ {M : Type 1} (𝓤 : URA M) (H : Heap 𝓤) (A : Atoms 𝓤) (W : Given 𝓤 H A) (mem : Memory → SProp 𝓤) (run : Routine → Fun 𝓤) (𝓣 : Tables 𝓤 H)
+    (known : Triple 𝓤 (𝓣 .C #finding·finding-at) (FindingAt 𝓤 H A mem run)) where
   fill-walks : Walks 𝓤 H A fill.ended stayed (WpFn 𝓤 H (𝓣 .C) (𝓣 .Λ) code.function) (fill.clauses 𝓤 H A mem run)
   fill-walks = walked 𝓤 H A fill.ended stayed (fill.clauses 𝓤 H A mem run) (WpFn 𝓤 H (𝓣 .C) (𝓣 .Λ) code.function)
       (λ κs. (slice-vals, ((λ s. surveyVal s ∷ []), (slice-vals, tt)))) (λ κs. (shr-slice-tells (named 0) (κs .0) u32, (LL.tells U.the-type U′.the-laws, (mut-slice-tells (named 1) (κs .1 .0) R, tt))))
@@ -352,7 +373,10 @@ module _ {M : Type 1} (𝓤 : URA M) (H : Heap 𝓤) (A : Atoms 𝓤) (W : Given
 
   fill-meets : Meets 𝓤 H A fill.signature (WpFn 𝓤 H (𝓣 .C) (𝓣 .Λ) code.function) (fill.spec 𝓤 H A mem run)
   fill-meets =
-      walk-meets 𝓤 H A fill.ended stayed W (goes-none-slice 𝓤 H A W 2 (0 ∷ []) tt (plain (λ _. u32)) yes, (goes-none 𝓤 H A W 2 (λ _. S) yes (λ κs x f. refl), (goes-slice 𝓤 H A W 2 1 tt (plain (λ _. R)), tt))) (fill.clauses 𝓤 H A mem run)
+      walk-meets 𝓤 H A fill.ended stayed W (
+        goes-none-slice 𝓤 H A W 2 (0 ∷ []) tt (plain (λ _. u32)) yes,
+        (goes-none 𝓤 H A W 2 (λ _. S) yes (λ κs x f. refl), (goes-slice 𝓤 H A W 2 1 tt (plain (λ _. R)), tt)),
+      ) (fill.clauses 𝓤 H A mem run)
       (WpFn 𝓤 H (𝓣 .C) (𝓣 .Λ) code.function) (WpFn-mono 𝓤 H (W .laws) 𝓣 code.function) fill-walks
 
 pub fill-spec : {M : Type 1} → stated.statement M

@@ -40,9 +40,9 @@ use denote.Triple.Walked.{says, Stays, stay-none-slice, gave-slice, walkOf, goes
 use denote.Exit.{yes}
 use denote.Signature.{plain}
 use Rattle.model.specs.Table.{Member, membersIn}
-use Rattle.report.specs.Answers.{answerOf}
-use Rattle.report.proofs.Report as Q
-use Rattle.report.proofs.Report.Laws as Q′
+use Rattle.answers.specs.Report.{answerOf}
+use Rattle.answers.proofs.report.Report as Q
+use Rattle.answers.proofs.report.Report.Laws as Q′
 use Rattle.finding.specs.declared.Finding.{Finding}
 use Rattle.finding.specs.declared.Survey.{Survey}
 use Rattle.finding.specs.View.{views}
@@ -76,7 +76,8 @@ module _ {M : Type 1} (𝓤 : URA M) (H : Heap 𝓤) (A : Atoms 𝓤) (mem : Mem
   abbrev Fill : Contract 𝓤
   Fill = tripleOf 𝓤 H A fill.signature (fill.spec 𝓤 H A mem run)
 
-module _ {M : Type 1} (𝓤 : URA M) (H : Heap 𝓤) (A : Atoms 𝓤) (W : Given 𝓤 H A) (mem : Memory → SProp 𝓤) (run : Routine → Fun 𝓤) (κ κ′ : Lft) (q q′ : Share) (w : RefT (List ℕ)) (b o : ℕ) (γ : GName) (ys : List Finding) (roomʷ : Room u32 (length (w .now))) (room : Room R (length ys)) where
+module _ {M : Type 1} (𝓤 : URA M) (H : Heap 𝓤) (A : Atoms 𝓤) (W : Given 𝓤 H A) (mem : Memory → SProp 𝓤) (run : Routine → Fun 𝓤) (κ κ′ : Lft) (q q′ : Share)
+    (w : RefT (List ℕ)) (b o : ℕ) (γ : GName) (ys : List Finding) (roomʷ : Room u32 (length (w .now))) (room : Room R (length ys)) where
   abbrev x : RefT (List Finding)
   x = record { ptr = (b, o); name = γ; now = ys }
 
@@ -153,7 +154,8 @@ module _ {M : Type 1} (𝓤 : URA M) (H : Heap 𝓤) (A : Atoms 𝓤) (W : Given
         nothing ! $ move ! (1 ∷ 0 ∷ []) $ fjoin ! $ move ! (1 ∷ 0 ∷ []) $ fjoin ! $ frame ! $
         owned ! Q.the-row (Is Q.the-row) (EL.makes Q.the-type Q′.the-plain 𝓤 H A) (sv .reply) _ reply-is $ done !
 
-  module _ (C : Calls 𝓤 H) (Λ : Loops 𝓤 H) (fm : FmC 𝓤 H (W .laws) C) (known-prepare : Triple 𝓤 (C #finding·prepare) (Prepare 𝓤 H A mem run)) (known-fill : Triple 𝓤 (C #findings·fill) (Fill 𝓤 H A mem run)) where
+  module _ (C : Calls 𝓤 H) (Λ : Loops 𝓤 H) (fm : FmC 𝓤 H (W .laws) C) (known-prepare : Triple 𝓤 (C #finding·prepare) (Prepare 𝓤 H A mem run))
+      (known-fill : Triple 𝓤 (C #findings·fill) (Fill 𝓤 H A mem run)) where
     walk : ent 𝓤 (onEntry 𝓤 H A findings.signature (κ, (κ′, tt)) (q, (q′, tt)) a at) (WpFn 𝓤 H C Λ code.function (v ∷ s ∷ []) Post)
     walk =
         qed W ((‵ (flft κ q) ⊛ ‵ (flft κ′ q′) ⊛ ‵ ftrue) ∷ ‵ (owns (ShrSlice (named 0) κ u32 ∷ MutSlice (named 1) κ′ R ∷ []) a at) ∷ []) ∵ enter ! C Λ code.function (v ∷ s ∷ []) _ $
@@ -167,8 +169,10 @@ module _ {M : Type 1} (𝓤 : URA M) (H : Heap 𝓤) (A : Atoms 𝓤) (W : Given
         nothing ! $ owned ! usize (Is usize) (uint-makes 𝓤 H A W w64) (length ys) _ (refl, room .0) $ fjoin ! $ move ! (1 ∷ 0 ∷ []) $ fjoin ! $ move ! (2 ∷ 0 ∷ []) $
         use2 W (raw (Prepare 𝓤 H A mem run .pre to-prepare)) asked-prepare $
         -- [what `prepare` asks; t; out's token; out; true; _7; …; _6; …; _5; …; _4; …; _3; …; _2; …; _1; …; room for _0; …]
-        calls-at ! fm (Prepare 𝓤 H A mem run) known-prepare to-prepare (and-then ! (load ! (from ! (stop !)) (look ! 17 refl)) (and-then ! (load ! (from ! (stop !)) (look ! 11 refl)) (no-more !))) (λ u.
-        use1 W (later (some (λ (sv : Survey). ((‵ (flft κ q) ⊛ ‵ ftrue) ⊛ ‵ (S .own sv (u ∷ []))) ⊛ raw (ensured 𝓤 H A prepare.ended (prepare.clauses 𝓤 H A mem run) (κ, tt) (w, (length ys, tt)) tt sv)))) (id⊢ 𝓤 _) $ await ! tt $ pick ! (λ sv.
+        calls-at ! fm (Prepare 𝓤 H A mem run) known-prepare to-prepare
+        (and-then ! (load ! (from ! (stop !)) (look ! 17 refl)) (and-then ! (load ! (from ! (stop !)) (look ! 11 refl)) (no-more !))) (λ u.
+        use1 W (later (some (λ (sv : Survey). ((‵ (flft κ q) ⊛ ‵ ftrue) ⊛ ‵ (S .own sv (u ∷ [])))
+        ⊛ raw (ensured 𝓤 H A prepare.ended (prepare.clauses 𝓤 H A mem run) (κ, tt) (w, (length ys, tt)) tt sv)))) (id⊢ 𝓤 _) $ await ! tt $ pick ! (λ sv.
         split ! $ move ! (1 ∷ []) $ use1 W (raw (fact 𝓤 (Told sv))) (said-prepare sv) $ heard ! (Told sv) (λ told. split ! $ move ! (1 ∷ []) $
         -- [the survey; t's token; t; out's token; out; true; _7; …]
         peeks ! S (Is S) (shows 𝓤 H A S) sv (u ∷ []) (λ is. let tells : u ∷ [] ≡ surveyVal sv ∷ [] = LL.tells U.the-type U′.the-laws sv _ is in let gs = subst (Is S sv) tells is in
@@ -176,15 +180,21 @@ module _ {M : Type 1} (𝓤 : URA M) (H : Heap 𝓤) (A : Atoms 𝓤) (W : Given
         rewrite ! 14 (λ (z : Val). ‵ (fat fullShare U′.mir l₃ 0 z)) (ap only tells) refl $ drop ! $
         -- [t's token; t; out's token; out; true; _7; …]
         assigns ! (addr ! (from ! (fld ! refl (hop ! (look-in ! 15 (sub ! 0 refl (whole !))) (stop !))))) (from ! (stop !)) (init ! 7 refl (tt, tt)) $
-        assigns ! (agg ! (and-then ! (load ! (from ! (stop !)) (look ! 7 refl)) (and-then ! (load ! (from ! (fld ! refl (stop !))) (look-in ! 15 (sub ! 1 refl (whole !)))) (no-more !)))) (from ! (stop !)) (init ! 5 refl (tt, (tt, (record { fits = room .0 }, tt)))) $
+        assigns ! (agg ! (and-then ! (load ! (from ! (stop !)) (look ! 7 refl))
+        (and-then ! (load ! (from ! (fld ! refl (stop !))) (look-in ! 15 (sub ! 1 refl (whole !)))) (no-more !)))) (from ! (stop !))
+        (init ! 5 refl (tt, (tt, (record { fits = room .0 }, tt)))) $
         split ! $ move ! (0 ∷ 3 ∷ []) $ join ! $ move ! (3 ∷ 1 ∷ []) $ fjoin ! $ owned ! S (Is S) (LL.makes U.the-type U′.the-plain 𝓤 H A) sv _ gs $ fjoin ! $
         -- [the survey and out; the tokens; t; true; _7; …]: one copy of t goes to `fill`
         move ! (2 ∷ []) $ use1 W (‵ OwnT ⊛ ‵ OwnT) (shr-slice-copy 𝓤 H A W (named 0) κ u32 .twice w (v ∷ [])) $ split ! $ move ! (0 ∷ 2 ∷ []) $ fjoin ! $ move ! (2 ∷ 0 ∷ []) $
         use2 W (raw (Fill 𝓤 H A mem run .pre (to-fill sv told gs))) (asked-fill sv told gs) $
         -- [what `fill` asks; t; true; _7; …; _6; …; _5; …; _4; …; _3; …; _2; …; _1; …; room for _0; …]
-        calls-at ! fm (Fill 𝓤 H A mem run) known-fill (to-fill sv told gs) (and-then ! (load ! (from ! (stop !)) (look ! 15 refl)) (and-then ! (load ! (from ! (stop !)) (look ! 11 refl)) (and-then ! (load ! (from ! (stop !)) (look ! 3 refl)) (no-more !)))) (λ y.
-        use1 W (later (some (λ (r : Unit {0}). ((‵ (flft κ q) ⊛ (‵ (flft κ′ q′) ⊛ ‵ ftrue)) ⊛ ‵ (unit .own r (y ∷ []))) ⊛ raw (ensured 𝓤 H A fill.ended (fill.clauses 𝓤 H A mem run) (κ, (κ′, tt)) (w, (sv, (x, tt))) tt r)))) (id⊢ 𝓤 _) $ await ! tt $ pick ! (λ r.
-        split ! $ move ! (1 ∷ []) $ use1 W (some (λ (ls : Unit {0} × (Unit {0} × (List Finding × Unit {0}))). ‵ (lasts fill.ended (κ, (κ′, tt)) (w, (sv, (x, tt))) ls) ⊛ raw (fact 𝓤 (ls .1 .1 .0 ≡ filled ms (sv .members) ys)))) (id⊢ 𝓤 _) $ pick ! (λ ls.
+        calls-at ! fm (Fill 𝓤 H A mem run) known-fill (to-fill sv told gs)
+        (and-then ! (load ! (from ! (stop !)) (look ! 15 refl))
+        (and-then ! (load ! (from ! (stop !)) (look ! 11 refl)) (and-then ! (load ! (from ! (stop !)) (look ! 3 refl)) (no-more !)))) (λ y.
+        use1 W (later (some (λ (r : Unit {0}). ((‵ (flft κ q) ⊛ (‵ (flft κ′ q′) ⊛ ‵ ftrue)) ⊛ ‵ (unit .own r (y ∷ [])))
+        ⊛ raw (ensured 𝓤 H A fill.ended (fill.clauses 𝓤 H A mem run) (κ, (κ′, tt)) (w, (sv, (x, tt))) tt r)))) (id⊢ 𝓤 _) $ await ! tt $ pick ! (λ r.
+        split ! $ move ! (1 ∷ []) $ use1 W (some (λ (ls : Unit {0} × (Unit {0} × (List Finding × Unit {0}))). ‵
+        (lasts fill.ended (κ, (κ′, tt)) (w, (sv, (x, tt))) ls) ⊛ raw (fact 𝓤 (ls .1 .1 .0 ≡ filled ms (sv .members) ys)))) (id⊢ 𝓤 _) $ pick ! (λ ls.
         split ! $ move ! (1 ∷ []) $ heard ! (ls .1 .1 .0 ≡ filled ms (sv .members) ys) (λ e.
         -- [what says the last values; the tokens and (); t; true; _7; …]
         fsplit ! $ drop ! $ fsplit ! $ drop ! $ fsplit ! $ fsplit ! $ move ! (1 ∷ []) $ feqL ! (λ l.
@@ -192,17 +202,22 @@ module _ {M : Type 1} (𝓤 : URA M) (H : Heap 𝓤) (A : Atoms 𝓤) (W : Given
         move ! (2 ∷ []) $ split ! $ move ! (1 ∷ []) $ peeks ! unit (Is unit) (shows 𝓤 H A unit) r (y ∷ []) (λ isy.
         -- [(); the tokens; out's last records; true; t; true; _7; …; _6; …; _5; …; _4; …; _3; …; _2; …; _1; …; room for _0; …]
         land ! (from ! (stop !)) (init ! 10 refl (nothing-lawful 𝓤 H A W .typed r _ isy .0)) $
-        assigns ! (of-opd ! (load ! (from ! (fld ! refl (stop !))) (look-in ! 14 (sub ! 0 refl (whole !))))) (from ! (stop !)) (init ! 20 refl (EL.lawful Q.the-type Q′.the-laws 𝓤 H A W tt .typed (sv .reply) _ (reply-is sv told gs) .0)) $
+        assigns ! (of-opd ! (load ! (from ! (fld ! refl (stop !))) (look-in ! 14 (sub ! 0 refl (whole !))))) (from ! (stop !))
+        (init ! 20 refl (EL.lawful Q.the-type Q′.the-laws 𝓤 H A W tt .typed (sv .reply) _ (reply-is sv told gs) .0)) $
         returns ! (look ! 20 refl) $ forget ! 6 refl $ forget ! 8 refl $ forget ! 10 refl $ forget ! 12 refl $ forget ! 14 refl $ forget ! 16 refl $ forget ! 18 refl $ forget ! 20 refl $
-        move ! (20 ∷ 21 ∷ []) $ free1 ! $ move ! (18 ∷ 19 ∷ []) $ free1 ! $ move ! (16 ∷ 17 ∷ []) $ free1 ! $ move ! (14 ∷ 15 ∷ []) $ free1 ! $ move ! (12 ∷ 13 ∷ []) $ free1 ! $ move ! (10 ∷ 11 ∷ []) $ free1 ! $ move ! (8 ∷ 9 ∷ []) $ free1 ! $ move ! (6 ∷ 7 ∷ []) $ free1 ! $ free0 ! $
+        move ! (20 ∷ 21 ∷ []) $ free1 ! $ move ! (18 ∷ 19 ∷ []) $ free1 ! $ move ! (16 ∷ 17 ∷ []) $ free1 ! $ move ! (14 ∷ 15 ∷ [])
+        $ free1 ! $ move ! (12 ∷ 13 ∷ []) $ free1 ! $ move ! (10 ∷ 11 ∷ []) $ free1 ! $ move ! (8 ∷ 9 ∷ []) $ free1 ! $ move ! (6 ∷ 7 ∷ [])
+        $ free1 ! $ free0 ! $
         keep ! (1 ∷ 2 ∷ 4 ∷ []) $ by ! (exits sv told gs (ls .1 .1 .0) e l)))))))))))))))))))
 
-module _ {M : Type 1} (𝓤 : URA M) (H : Heap 𝓤) (A : Atoms 𝓤) (W : Given 𝓤 H A) (mem : Memory → SProp 𝓤) (run : Routine → Fun 𝓤) (𝓣 : Tables 𝓤 H) (known-prepare : Triple 𝓤 (𝓣 .C #finding·prepare) (Prepare 𝓤 H A mem run)) (known-fill : Triple 𝓤 (𝓣 .C #findings·fill) (Fill 𝓤 H A mem run)) where
+module _ {M : Type 1} (𝓤 : URA M) (H : Heap 𝓤) (A : Atoms 𝓤) (W : Given 𝓤 H A) (mem : Memory → SProp 𝓤) (run : Routine → Fun 𝓤) (𝓣 : Tables 𝓤 H)
+    (known-prepare : Triple 𝓤 (𝓣 .C #finding·prepare) (Prepare 𝓤 H A mem run)) (known-fill : Triple 𝓤 (𝓣 .C #findings·fill) (Fill 𝓤 H A mem run)) where
   findings-walks : Walks 𝓤 H A findings.ended stayed (WpFn 𝓤 H (𝓣 .C) (𝓣 .Λ) code.function) (findings.clauses 𝓤 H A mem run)
   findings-walks = walked 𝓤 H A findings.ended stayed (findings.clauses 𝓤 H A mem run) (WpFn 𝓤 H (𝓣 .C) (𝓣 .Λ) code.function)
       (λ κs. (slice-vals, (slice-vals, tt))) (λ κs. (shr-slice-tells (named 0) (κs .0) u32, (mut-slice-tells (named 1) (κs .1 .0) R, tt)))
       (λ κs qs bounds a g are. via 𝓤 _ (fst∗ 𝓤 _ (emp 𝓤))
-      (let x = a .1 .0 in walk 𝓤 H A W mem run (κs .0) (κs .1 .0) (qs .0) (qs .1 .0) (a .0) (x .ptr .0) (x .ptr .1) (x .name) (x .now) (are .0 .0 .1) (are .1 .0 .0 .1) (𝓣 .C) (𝓣 .Λ) (fmOf 𝓤 H (W .laws) 𝓣) known-prepare known-fill))
+      (let x = a .1 .0 in walk 𝓤 H A W mem run (κs .0) (κs .1 .0) (qs .0) (qs .1 .0) (a .0) (x .ptr .0) (x .ptr .1) (x .name) (x .now) (are .0 .0 .1)
+      (are .1 .0 .0 .1) (𝓣 .C) (𝓣 .Λ) (fmOf 𝓤 H (W .laws) 𝓣) known-prepare known-fill))
 
   findings-meets : Meets 𝓤 H A findings.signature (WpFn 𝓤 H (𝓣 .C) (𝓣 .Λ) code.function) (findings.spec 𝓤 H A mem run)
   findings-meets =

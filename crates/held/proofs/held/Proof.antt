@@ -8,7 +8,7 @@ use Rattle.model.specs.Held.{runsOf, bounds}
 use Rattle.model.specs.Refusals.{heldRefusal}
 use Rattle.model.specs.Calls.{heldAnswer}
 use Rattle.laws.specs.Accepted.{declined-answer}
-use Rattle.refusal.proofs.Laws.{Called, called, refused}
+use Rattle.standing.proofs.Laws.{Called, called, refused}
 use Rattle.held.proofs.Laws.{held-refused, held-left}
 use Rattle.held.proofs.held.Statement.{statement}
 use Rattle.held.proofs.held.Tie as tie
@@ -33,7 +33,8 @@ returns c =
     let k = r .before .before in
     let g = granted k in
     let a = start (k .before .before) .args in
-    rw (held-left (a .t .now) (a .n) (a .ks .now) (g .granted), ← r .is-rising .ensures, t .if1 .taken) (c .runs-at .ensures ∙ ap (λ (x : ℕ). accepted (bounds (runsOf (membersIn (a .t .now)) x (a .ks .now)))) (g .stands .has-id))
+    rw (held-left (a .t .now) (a .n) (a .ks .now) (g .granted), ← r .is-rising .ensures, t .if1 .taken)
+    (c .runs-at .ensures ∙ ap (λ (x : ℕ). accepted (bounds (runsOf (membersIn (a .t .now)) x (a .ks .now)))) (g .stands .has-id))
 
 returns-2 : tie.Need-returns-2
 unfolding heldAnswer

@@ -16,7 +16,8 @@ returns c =
     let k = t .before in
     let s = start k in
     let ks = s .args .ks .now in
-    two-runs (s .args .t .now) ks (s .pre .0) (s .args .at) (s .pre .1 .0) _ _ (t .if1 .taken) (c .keys-to2 .ensures ∙ ap (keysTo ks) (i .id-at2 .ensures)) (k .keys-to .ensures ∙ ap (keysTo ks) (k .before .id-at .ensures))
+    two-runs (s .args .t .now) ks (s .pre .0) (s .args .at) (s .pre .1 .0) _ _ (t .if1 .taken) (c .keys-to2 .ensures ∙ ap (keysTo ks) (i .id-at2 .ensures))
+    (k .keys-to .ensures ∙ ap (keysTo ks) (k .before .id-at .ensures))
 
 returns-2 : tie.Need-returns-2
 returns-2 c =
@@ -25,8 +26,10 @@ returns-2 c =
     let k = e .before in
     let s = start k in
     let ks = s .args .ks .now in
-    one-run (s .args .t .now) ks (s .pre .0) (s .args .at) (s .pre .1 .0) _ _ (e .if1 .left) (c .keys-to3 .ensures ∙ ap (keysTo ks) (i .id-at3 .ensures)) (k .keys-to .ensures ∙ ap (keysTo ks) (k .before .id-at .ensures))
+    one-run (s .args .t .now) ks (s .pre .0) (s .args .at) (s .pre .1 .0) _ _ (e .if1 .left) (c .keys-to3 .ensures ∙ ap (keysTo ks) (i .id-at3 .ensures))
+    (k .keys-to .ensures ∙ ap (keysTo ks) (k .before .id-at .ensures))
 
 pub runs-at-spec : {M : Type 1} → statement M
 runs-at-spec =
-    tie.close (tie.spec (λ c κs. search needs) (λ c κs. search needs) (λ c. search needs) (λ c. search needs) (λ c. search needs) (λ c κs. search needs) (λ c κs. search needs) returns (λ c κs. search needs) (λ c κs. search needs) returns-2)
+    tie.close (tie.spec (λ c κs. search needs) (λ c κs. search needs) (λ c. search needs) (λ c. search needs) (λ c. search needs) (λ c κs. search needs)
+    (λ c κs. search needs) returns (λ c κs. search needs) (λ c κs. search needs) returns-2)

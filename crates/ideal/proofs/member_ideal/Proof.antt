@@ -41,4 +41,6 @@ returns-2 c =
 
 pub member-ideal-spec : {M : Type 1} → statement M
 member-ideal-spec =
-    tie.close (tie.spec (λ c. search needs) (λ c. search needs) (λ c κs. search needs) (λ c. search needs) (λ c. search needs) shared-slice-read-if1 (λ c κs. search needs) returns (λ c. search needs) (λ c. search needs) (λ c. search needs) (λ c. search needs) (λ c. search needs) part-names-next-end (λ c κs. search needs) returns-2)
+    tie.close (tie.spec (λ c. search needs) (λ c. search needs) (λ c κs. search needs) (λ c. search needs) (λ c. search needs) shared-slice-read-if1
+    (λ c κs. search needs) returns (λ c. search needs) (λ c. search needs) (λ c. search needs) (λ c. search needs) (λ c. search needs) part-names-next-end
+    (λ c κs. search needs) returns-2)

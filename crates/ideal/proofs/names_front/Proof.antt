@@ -17,12 +17,12 @@ Inv-loop s r l w p₀ q₀ p q = (length p * recordSize r ≤ length q) × (same
 abbrev μ-loop : tie.MeasureT-loop
 μ-loop s r l w p₀ q₀ p q = length p
 
-abbrev start : tie.After-width Inv-loop μ-loop → tie.Start Inv-loop μ-loop
+abbrev start : tie.After-record-size Inv-loop μ-loop → tie.Start Inv-loop μ-loop
 start w = w .before .before .before
 
--- the width of a record, and a record at the front
-wide : (w : tie.After-width Inv-loop μ-loop) → w .width .result ≡ recordSize (start w .args .r)
-wide w = w .width .ensures
+-- the size of a record, and a record at the front
+sized : (w : tie.After-record-size Inv-loop μ-loop) → w .record-size .result ≡ recordSize (start w .args .r)
+sized w = w .record-size .ensures
 
 one : (i : tie.In-loop Inv-loop μ-loop) → recordSize (start (i .before .before) .args .r) ≤ length (i .before .loop .q .now)
 one i = let l = i .before in one-fits (start (l .before) .args .r) (length (l .loop .p .now)) (l .loop .q .now) (omega (arith, i .loop-test .taken)) (l .loop .inv .0)
@@ -38,8 +38,8 @@ returns c =
     let some : 0 < length p = omega (arith, i .loop-test .taken) in
     differs p _ _ _ (first-record (start (l .before) .args .r) p (l .loop .q .now) some) some (c .if1 .taken) ∙ l .loop .inv .1
 
-whole : (i : tie.In-loop Inv-loop μ-loop) → i .before .before .width .result ≤ length (i .before .loop .q .now)
-whole i = rw (wide (i .before .before)) (one i)
+whole : (i : tie.In-loop Inv-loop μ-loop) → i .before .before .record-size .result ≤ length (i .before .loop .q .now)
+whole i = rw (sized (i .before .before)) (one i)
 
 sub-q : tie.Need-sub-q Inv-loop μ-loop
 sub-q c = omega (arith, whole (c .before .before .before .before))
@@ -60,7 +60,8 @@ loop-again c =
     let w = l .before in
     let r = start w .args .r in
     let some : 0 < length p = omega (arith, i .loop-test .taken) in
-    rw (part-from 1 p, part-from (w .width .result) q, wide w) (rw length-drop (rest-fits r (length p) q some (l .loop .inv .0)), agrees p _ _ _ (first-record r p q some) some (e .if1 .left) ∙ l .loop .inv .1)
+    rw (part-from 1 p, part-from (w .record-size .result) q, sized w)
+    (rw length-drop (rest-fits r (length p) q some (l .loop .inv .0)), agrees p _ _ _ (first-record r p q some) some (e .if1 .left) ∙ l .loop .inv .1)
 
 returns-2 : tie.Need-returns-2 Inv-loop μ-loop
 returns-2 c =
@@ -69,4 +70,5 @@ returns-2 c =
 
 pub names-front-spec : {M : Type 1} → statement M
 names-front-spec =
-    tie.close (tie.spec Inv-loop μ-loop (λ c κs. search needs) (λ c. search needs) (λ c. search needs) shared-slice-read-if1-2 returns (λ c. search needs) (λ c. search needs) (λ c. search needs) (λ c. search needs) sub-q part-q-start (λ c. search needs) loop-less loop-again returns-2)
+    tie.close (tie.spec Inv-loop μ-loop (λ c κs. search needs) (λ c. search needs) (λ c. search needs) shared-slice-read-if1-2 returns (λ c. search needs)
+    (λ c. search needs) (λ c. search needs) (λ c. search needs) sub-q part-q-start (λ c. search needs) loop-less loop-again returns-2)

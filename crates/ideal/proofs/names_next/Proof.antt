@@ -42,4 +42,6 @@ returns c =
 
 pub names-next-spec : {M : Type 1} → statement M
 names-next-spec =
-    tie.close (tie.spec (λ c. search needs) (λ c. search needs) (λ c. search needs) (λ c. search needs) (λ c. search needs) (λ c. search needs) (λ c κs. search needs) (λ c. search needs) sub-names-front part-names-front-start (λ c. search needs) names-front-requires returns (λ c κs. search needs) (λ c. search needs))
+    tie.close (tie.spec (λ c. search needs) (λ c. search needs) (λ c. search needs) (λ c. search needs) (λ c. search needs) (λ c. search needs)
+    (λ c κs. search needs) (λ c. search needs) sub-names-front part-names-front-start (λ c. search needs) names-front-requires returns
+    (λ c κs. search needs) (λ c. search needs))

@@ -13,7 +13,8 @@ use Rattle.ideal.proofs.names_round.Statement.{statement}
 use Rattle.ideal.proofs.names_round.Tie as tie
 
 abbrev Inv-loop : tie.InvT-loop
-Inv-loop t k l rest₀ j₀ rest j = (j < getD t 1 0) × (same rest (nextUps (length rest) (ids (membersIn t)) (getD (ids (membersIn t)) j 0)) ≡ same l (nextUps (length l) (ids (membersIn t)) (getD (ids (membersIn t)) k 0)))
+Inv-loop t k l rest₀ j₀ rest j = (j < getD t 1 0) × (same rest (nextUps (length rest) (ids (membersIn t)) (getD (ids (membersIn t)) j 0))
+    ≡ same l (nextUps (length l) (ids (membersIn t)) (getD (ids (membersIn t)) k 0)))
 
 abbrev μ-loop : tie.MeasureT-loop
 μ-loop t k l rest₀ j₀ rest j = length rest
@@ -28,7 +29,9 @@ returns c =
     let l = a .before .before in
     let some : 0 < length (l .loop .rest .now) = omega (arith, a .before .loop-test .taken) in
     let xs = ids (membersIn (start l .args .t .now)) in
-    differs (l .loop .rest .now) _ _ (i .id-at .result) (first-up xs (l .loop .rest .now) (getD xs (l .loop .j) 0) (i .id-at .result) (i .id-at .ensures ∙ a .place-above .ensures .1) some) some (c .if1 .taken) ∙ l .loop .inv .1
+    differs (l .loop .rest .now) _ _ (i .id-at .result)
+    (first-up xs (l .loop .rest .now) (getD xs (l .loop .j) 0) (i .id-at .result) (i .id-at .ensures ∙ a .place-above .ensures .1) some) some
+    (c .if1 .taken) ∙ l .loop .inv .1
 
 loop-less : tie.Need-loop-less Inv-loop μ-loop
 loop-less c = rw part-from (simp length-drop (omega arith))
@@ -41,8 +44,12 @@ loop-again c =
     let l = a .before .before in
     let some : 0 < length (l .loop .rest .now) = omega (arith, a .before .loop-test .taken) in
     let xs = ids (membersIn (start l .args .t .now)) in
-    let y = getD xs (a .place-above .result) 0 in
-    (a .place-above .ensures .0, rw part-from (agrees (l .loop .rest .now) _ _ y (first-up xs (l .loop .rest .now) (getD xs (l .loop .j) 0) y (a .place-above .ensures .1) some) some (e .if1 .left ∙ i .id-at .ensures) ∙ l .loop .inv .1))
+    let y = getD xs (a .place-above .result) 0 in (
+      a .place-above .ensures .0,
+      rw part-from (agrees (l .loop .rest .now) _ _ y
+          (first-up xs (l .loop .rest .now) (getD xs (l .loop .j) 0) y (a .place-above .ensures .1) some) some (e .if1 .left ∙ i .id-at .ensures)
+          ∙ l .loop .inv .1),
+    )
 
 returns-2 : tie.Need-returns-2 Inv-loop μ-loop
 returns-2 c =
@@ -52,4 +59,5 @@ returns-2 c =
 
 pub names-round-spec : {M : Type 1} → statement M
 names-round-spec =
-    tie.close (tie.spec Inv-loop μ-loop (λ c. search needs) (λ c κs. search needs) (λ c. search needs) (λ c κs. search needs) returns (λ c. search needs) (λ c. search needs) (λ c. search needs) loop-less loop-again returns-2)
+    tie.close (tie.spec Inv-loop μ-loop (λ c. search needs) (λ c κs. search needs) (λ c. search needs) (λ c κs. search needs) returns (λ c. search needs)
+    (λ c. search needs) (λ c. search needs) loop-less loop-again returns-2)

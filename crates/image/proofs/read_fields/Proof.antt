@@ -10,13 +10,14 @@ use Rattle.laws.specs.Bytes.{fieldSize}
 use Rattle.laws.specs.Parts.{part-from, one-of}
 use Rattle.octets.proofs.Placed.{placed-none}
 use Rattle.octets.specs.Placed.{placed}
-use Rattle.image.proofs.Turns.{record-turn}
+use Rattle.image.proofs.Loops.{one-more-record}
 use borrow.Author.Needs.{needs}
 use Rattle.image.proofs.read_fields.Statement.{statement}
 use Rattle.image.proofs.read_fields.Tie as tie
 
 abbrev Inv-loop : tie.InvT-loop
-Inv-loop t₀ f r n s w p₀ at₀ left₀ t p at left = (left * fieldSize r ≤ length p) × (at + left * recordSize r ≤ length t) × (length t ≡ length t₀) × (placed at (recordsOf (fieldMembers r left p)) t ≡ placed headerSize (recordsOf (fieldMembers r n f)) t₀)
+Inv-loop t₀ f r n s w p₀ at₀ left₀ t p at left = (left * fieldSize r ≤ length p) × (at + left * recordSize r ≤ length t) × (length t ≡ length t₀)
+    × (placed at (recordsOf (fieldMembers r left p)) t ≡ placed headerSize (recordsOf (fieldMembers r n f)) t₀)
 
 abbrev μ-loop : tie.MeasureT-loop
 μ-loop t₀ f r n s w p₀ at₀ left₀ t p at left = left
@@ -29,9 +30,9 @@ start c = sizes c .before .before .before .before
 
 -- a field's bytes
 sized : (c : tie.In-loop Inv-loop μ-loop) → sizes c .field-size .result ≡ fieldSize (start c .args .r)
-sized c = sizes c .field-size .ensures (start c .args .r) (sizes c .before .width .ensures)
+sized c = sizes c .field-size .ensures (start c .args .r) (sizes c .before .record-size .ensures)
 
--- in a turn there is one of n
+-- in an iteration there is one of n
 one-left : (c : tie.In-loop Inv-loop μ-loop) → sizes c .field-size .result ≤ length (c .before .loop .p .now)
 one-left c = omega (arith, sized c, one-of (c .before .loop .left) (fieldSize (start c .args .r)) (c .loop-test .taken))
 
@@ -59,12 +60,17 @@ loop-again c =
     let k = i .before .loop in
     let r = start i .args .r in
     let f = sized i in
-    let w = sizes i .before .width .ensures in
+    let w = sizes i .before .record-size .ensures in
     let wrote = c .before .before .before .read-field in
     let n : length (wrote .last .0) ≡ length (k .t) = c .before .before .t .given in
     let l : (k .left - 1) * fieldSize r ≤ length (k .p .now) - fieldSize r = omega (arith, one-of (k .left) (fieldSize r) (i .loop-test .taken)) in
-    let u : k .at + recordSize r + (k .left - 1) * recordSize r ≤ length (wrote .last .0) = omega (arith, one-of (k .left) (recordSize r) (i .loop-test .taken)) in
-    (rw (part-from, length-drop, f) l, omega (arith, u), n ∙ k .inv .2, rw part-from (record-turn (k .at) r (k .left) _ _ w f (i .loop-test .taken) (k .p .now) (k .t) (wrote .last .0) (omega arith) (wrote .ensures) ∙ k .inv .3))
+    let u : k .at + recordSize r + (k .left - 1) * recordSize r ≤ length (wrote .last .0) = omega (arith, one-of (k .left) (recordSize r) (i .loop-test .taken)) in (
+      rw (part-from, length-drop, f) l,
+      omega (arith, u),
+      n ∙ k .inv .2,
+      rw part-from (one-more-record (k .at) r (k .left) _ _ w f (i .loop-test .taken) (k .p .now) (k .t) (wrote .last .0) (omega arith) (wrote .ensures)
+          ∙ k .inv .3),
+    )
 
 returns : tie.Need-returns Inv-loop μ-loop
 returns c =
@@ -75,4 +81,5 @@ returns c =
 
 pub read-fields-spec : {M : Type 1} → statement M
 read-fields-spec =
-    tie.close (tie.spec Inv-loop μ-loop (λ c κs. search needs) (λ c κs. search needs) (λ c. search needs) slice-aggregate-read-field read-field-requires sub-p part-p-start (λ c. search needs) (λ c. search needs) (λ c. search needs) (λ c. search needs) loop-again (λ c. search needs) returns)
+    tie.close (tie.spec Inv-loop μ-loop (λ c κs. search needs) (λ c κs. search needs) (λ c. search needs) slice-aggregate-read-field read-field-requires sub-p
+    part-p-start (λ c. search needs) (λ c. search needs) (λ c. search needs) (λ c. search needs) loop-again (λ c. search needs) returns)

@@ -42,9 +42,12 @@ returns c =
     let a = counted .before .before .before .before .args in
     let r = counted .before .image-r .ensures .0 in
     let n = counted .image-count .ensures .0 in
-    let records = ap₂ (λ (i j : ℕ). placed headerSize (recordsOf (fieldMembers i j (drop firstSize (a .image .now)))) (sets (a .t .now) 0 (counted .before .image-r .result ∷ counted .image-count .result ∷ steps .image-steps .result ∷ []))) r n in
-    table-read (a .image .now) (a .t .now) _ _ (header-read (a .image .now) _ _ _ r n (steps .image-steps .ensures)) (omega arith) ((rw part-from at (c .before .before .read-fields .ensures)) ∙ records)
+    let records = ap₂ (λ (i j : ℕ). placed headerSize (recordsOf (fieldMembers i j (drop firstSize (a .image .now))))
+    (sets (a .t .now) 0 (counted .before .image-r .result ∷ counted .image-count .result ∷ steps .image-steps .result ∷ []))) r n in
+    table-read (a .image .now) (a .t .now) _ _ (header-read (a .image .now) _ _ _ r n (steps .image-steps .ensures)) (omega arith)
+    ((rw part-from at (c .before .before .read-fields .ensures)) ∙ records)
 
 pub read-image-spec : {M : Type 1} → statement M
 read-image-spec =
-    tie.close (tie.spec (λ c κs. search needs) (λ c κs. search needs) (λ c. search needs) (λ c. search needs) (λ c. search needs) slice-write-t-2 (λ c κs. search needs) slice-write-t-3 (λ c. search needs) (λ c. search needs) (λ c. search needs) read-fields-requires same-length returns)
+    tie.close (tie.spec (λ c κs. search needs) (λ c κs. search needs) (λ c. search needs) (λ c. search needs) (λ c. search needs) slice-write-t-2
+    (λ c κs. search needs) slice-write-t-3 (λ c. search needs) (λ c. search needs) (λ c. search needs) read-fields-requires same-length returns)

@@ -11,13 +11,14 @@ use Rattle.laws.specs.Parts.{part-from, one-of, one-fits, rest-fits}
 use Rattle.octets.proofs.Placed.{placed-none}
 use Rattle.octets.specs.Placed.{placed}
 use Rattle.fields.specs.Fields.{firstSize}
-use Rattle.image.proofs.Turns.{field-turn}
+use Rattle.image.proofs.Loops.{one-more-field}
 use borrow.Author.Needs.{needs}
 use Rattle.image.proofs.write_fields.Statement.{statement}
 use Rattle.image.proofs.write_fields.Tie as tie
 
 abbrev Inv-loop : tie.InvT-loop
-Inv-loop out₀ ws r n w b p₀ at₀ left₀ out p at left = (left * recordSize r ≤ length p) × (at + left * fieldSize r ≤ length out) × (length out ≡ length out₀) × (placed at (memberFields (membersOf r left p)) out ≡ placed firstSize (memberFields (membersOf r n ws)) out₀)
+Inv-loop out₀ ws r n w b p₀ at₀ left₀ out p at left = (left * recordSize r ≤ length p) × (at + left * fieldSize r ≤ length out) × (length out ≡ length out₀)
+    × (placed at (memberFields (membersOf r left p)) out ≡ placed firstSize (memberFields (membersOf r n ws)) out₀)
 
 abbrev μ-loop : tie.MeasureT-loop
 μ-loop out₀ ws r n w b p₀ at₀ left₀ out p at left = left
@@ -30,13 +31,13 @@ start c = sizes c .before .before .before .before
 
 -- a field's bytes
 sized : (c : tie.In-loop Inv-loop μ-loop) → sizes c .field-size .result ≡ fieldSize (start c .args .r)
-sized c = sizes c .field-size .ensures (start c .args .r) (sizes c .before .width .ensures)
+sized c = sizes c .field-size .ensures (start c .args .r) (sizes c .before .record-size .ensures)
 
--- in a turn there is one of n
-one-left : (c : tie.In-loop Inv-loop μ-loop) → sizes c .before .width .result ≤ length (c .before .loop .p .now)
+-- in an iteration there is one of n
+one-left : (c : tie.In-loop Inv-loop μ-loop) → sizes c .before .record-size .result ≤ length (c .before .loop .p .now)
 one-left c =
     let k = c .before .loop in
-    rw (sizes c .before .width .ensures) (one-fits (start c .args .r) (k .left) (k .p .now) (c .loop-test .taken) (k .inv .0))
+    rw (sizes c .before .record-size .ensures) (one-fits (start c .args .r) (k .left) (k .p .now) (c .loop-test .taken) (k .inv .0))
 
 -- and room for it
 field-fits : (c : tie.In-loop Inv-loop μ-loop) → c .before .loop .at + fieldSize (start c .args .r) ≤ length (c .before .loop .out)
@@ -48,7 +49,7 @@ slice-aggregate-write-field c = sym (length-take-le _ _ (one-left (c .before .be
 write-field-requires : tie.Need-write-field-requires Inv-loop μ-loop
 write-field-requires c κs =
     let i = c .before .before in
-    (omega arith, length-take-le _ _ (one-left i) ∙ sizes i .before .width .ensures, field-fits i)
+    (omega arith, length-take-le _ _ (one-left i) ∙ sizes i .before .record-size .ensures, field-fits i)
 
 sub-p : tie.Need-sub-p Inv-loop μ-loop
 sub-p c = one-left (c .before .before .before .before .before)
@@ -65,11 +66,16 @@ loop-again c =
     let k = i .before .loop in
     let r = start i .args .r in
     let f = sized i in
-    let w = sizes i .before .width .ensures in
+    let w = sizes i .before .record-size .ensures in
     let wrote = c .before .before .before .write-field in
     let n : length (wrote .last .0) ≡ length (k .out) = c .before .before .out .given in
-    let u : k .at + fieldSize r + (k .left - 1) * fieldSize r ≤ length (wrote .last .0) = omega (arith, one-of (k .left) (fieldSize r) (i .loop-test .taken)) in
-    (rw (part-from, w) (rest-fits r (k .left) (k .p .now) (i .loop-test .taken) (k .inv .0)), omega (arith, u), n ∙ k .inv .2, rw part-from (field-turn (k .at) r (k .left) _ _ w f (i .loop-test .taken) (k .p .now) (k .out) (wrote .last .0) (k .inv .0) (omega arith) (wrote .ensures) ∙ k .inv .3))
+    let u : k .at + fieldSize r + (k .left - 1) * fieldSize r ≤ length (wrote .last .0) = omega (arith, one-of (k .left) (fieldSize r) (i .loop-test .taken)) in (
+      rw (part-from, w) (rest-fits r (k .left) (k .p .now) (i .loop-test .taken) (k .inv .0)),
+      omega (arith, u),
+      n ∙ k .inv .2,
+      rw part-from (one-more-field (k .at) r (k .left) _ _ w f (i .loop-test .taken) (k .p .now) (k .out) (wrote .last .0) (k .inv .0) (omega arith)
+          (wrote .ensures) ∙ k .inv .3),
+    )
 
 returns : tie.Need-returns Inv-loop μ-loop
 returns c =
@@ -80,4 +86,5 @@ returns c =
 
 pub write-fields-spec : {M : Type 1} → statement M
 write-fields-spec =
-    tie.close (tie.spec Inv-loop μ-loop (λ c κs. search needs) (λ c κs. search needs) (λ c. search needs) slice-aggregate-write-field write-field-requires (λ c. search needs) sub-p part-p-start (λ c. search needs) add-at (λ c. search needs) (λ c. search needs) loop-again (λ c. search needs) returns)
+    tie.close (tie.spec Inv-loop μ-loop (λ c κs. search needs) (λ c κs. search needs) (λ c. search needs) slice-aggregate-write-field write-field-requires
+    (λ c. search needs) sub-p part-p-start (λ c. search needs) add-at (λ c. search needs) (λ c. search needs) loop-again (λ c. search needs) returns)

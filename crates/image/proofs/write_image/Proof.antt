@@ -19,8 +19,11 @@ returns c =
     let sized = header .before .before .before in
     let start = sized .before .before .before .before .before in
     let a = start .args in
-    image-written (a .t .now) (start .pre .0 .right) (sized .image-size .result - fieldHead) _ (a .out .now) (header .put-header .last .0) (fields .write-fields .last .0) _ (header-bytes (a .t .now) (start .pre .0 .right)) (omega arith) (omega arith) (header .put-header .ensures) (rw (records .records-of .ensures) at (fields .write-fields .ensures)) (c .before .before .put-head .ensures)
+    image-written (a .t .now) (start .pre .0 .right) (sized .image-size .result - fieldHead) _ (a .out .now) (header .put-header .last .0)
+    (fields .write-fields .last .0) _ (header-bytes (a .t .now) (start .pre .0 .right)) (omega arith) (omega arith) (header .put-header .ensures)
+    (rw (records .records-of .ensures) at (fields .write-fields .ensures)) (c .before .before .put-head .ensures)
 
 pub write-image-spec : {M : Type 1} → statement M
 write-image-spec =
-    tie.close (tie.spec (λ c. search needs) (λ c. search needs) (λ c. search needs) (λ c. search needs) (λ c κs. search needs) (λ c. search needs) (λ c. search needs) (λ c κs. search needs) (λ c κs. search needs) write-fields-requires (λ c κs. search needs) (λ c. search needs) returns)
+    tie.close (tie.spec (λ c. search needs) (λ c. search needs) (λ c. search needs) (λ c. search needs) (λ c κs. search needs) (λ c. search needs)
+    (λ c. search needs) (λ c κs. search needs) (λ c κs. search needs) write-fields-requires (λ c κs. search needs) (λ c. search needs) returns)

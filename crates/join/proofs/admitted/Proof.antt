@@ -23,8 +23,16 @@ insert-at-requires c κs =
     let s = i .before .before .before in
     let ws = s .args .t .now in
     let n = members-length (getD ws 0 0) (getD ws 1 0) (drop headerSize ws) in
-    let room = has-room ws (s .pre .may .room) in
-    (s .pre .table, ((omega arith, omega (arith, size-words ws, s .pre .table .fits)), (ap (λ (m : Member). live (membersIn ws) (m .id)) (i .joiner .ensures) ∙ s .pre .may .new, s .pre .place ∙ sym (ap (λ (m : Member). rank (ids (membersIn ws)) (m .id)) (i .joiner .ensures)))))
+    let room = has-room ws (s .pre .may .room) in (
+      s .pre .table,
+      (
+        (omega arith, omega (arith, size-words ws, s .pre .table .fits)),
+        (
+          ap (λ (m : Member). live (membersIn ws) (m .id)) (i .joiner .ensures) ∙ s .pre .may .new,
+          s .pre .place ∙ sym (ap (λ (m : Member). rank (ids (membersIn ws)) (m .id)) (i .joiner .ensures)),
+        ),
+      ),
+    )
 
 -- the words that the insertion leaves
 left : (c : tie.After-insert-at) → let a = c .before .before .before .before .before .args in c .insert-at .last .0 ≡ written (joined (a .j) (a .p) (tableOf (a .t .now))) (a .t .now)

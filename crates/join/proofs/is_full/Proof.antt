@@ -20,7 +20,7 @@ returns-2 c =
     let o = c .before in
     let e = o .before in
     let ws = e .before .before .before .before .args .t .now in
-    rw (members-length (getD ws 0 0) (getD ws 1 0) (drop headerSize ws), lt-leb _ _ (e .if1 .left), o .offset .ensures .0, c .width .ensures)
+    rw (members-length (getD ws 0 0) (getD ws 1 0) (drop headerSize ws), lt-leb _ _ (e .if1 .left), o .offset .ensures .0, c .record-size .ensures)
 
 pub is-full-spec : {M : Type 1} → statement M
 is-full-spec =

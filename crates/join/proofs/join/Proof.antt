@@ -3,7 +3,7 @@ use mathlib.Core.Path.{_≡_, sym, _∙_}
 use borrow.Author.Needs.{needs}
 use Rattle.model.specs.Refusals.{joinRefusal}
 use Rattle.model.specs.Calls.{joinAnswer, joinWords}
-use Rattle.join.specs.Entry.{Admits}
+use Rattle.join.specs.Admission.{Admits}
 use Rattle.join.proofs.Laws.{admits, refused-join}
 use Rattle.join.proofs.join.Statement.{statement}
 use Rattle.join.proofs.join.Tie as tie

@@ -34,8 +34,12 @@ loop-again c =
     let v = x .before .before .before .before in
     let n = v .before .before in
     let u = n .before .before in
-    let k = u .before .before .before .loop in
-    (e .ensures .0, e .kept .0 ∙ k .inv .1, go-on (k .p .now) (u .until .result) (take (k .n) (k .xs)) (u .before .before .loop-test .taken) (u .until .ensures .0) (v .v .given .0 .0) (take (e .result) (e .last .0)) (e .ensures .1) (sym (v .v .given .1) ∙ n .number-in .ensures) ∙ k .inv .2)
+    let k = u .before .before .before .loop in (
+      e .ensures .0,
+      e .kept .0 ∙ k .inv .1,
+      go-on (k .p .now) (u .until .result) (take (k .n) (k .xs)) (u .before .before .loop-test .taken)
+          (u .until .ensures .0) (v .v .given .0 .0) (take (e .result) (e .last .0)) (e .ensures .1) (sym (v .v .given .1) ∙ n .number-in .ensures) ∙ k .inv .2,
+    )
 
 returns-2 : tie.Need-returns-2 Inv-loop μ-loop
 returns-2 c =
@@ -44,4 +48,6 @@ returns-2 c =
 
 pub numbers-in-spec : {M : Type 1} → statement M
 numbers-in-spec =
-    tie.close (tie.spec Inv-loop μ-loop loop-holds (λ c. search needs) (λ c. search needs) (λ c. search needs) (λ c κs. search needs) (λ c. search needs) (λ c κs. search needs) (λ c. search needs) (λ c κs. search needs) (λ c. search needs) (λ c. search needs) returns (λ c. search needs) (λ c. search needs) (λ c. search needs) (λ c. search needs) loop-again (λ c. search needs) returns-2)
+    tie.close (tie.spec Inv-loop μ-loop loop-holds (λ c. search needs) (λ c. search needs) (λ c. search needs) (λ c κs. search needs) (λ c. search needs)
+    (λ c κs. search needs) (λ c. search needs) (λ c κs. search needs) (λ c. search needs) (λ c. search needs) returns (λ c. search needs)
+    (λ c. search needs) (λ c. search needs) (λ c. search needs) loop-again (λ c. search needs) returns-2)

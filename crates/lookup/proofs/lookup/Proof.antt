@@ -5,7 +5,7 @@ use borrow.Author.Needs.{needs}
 use Rattle.model.specs.Table.{membersIn}
 use Rattle.model.specs.Steps.{lookup}
 use Rattle.model.specs.Calls.{lookupAnswer}
-use Rattle.refusal.proofs.Laws.{Called, called, refused, refused-call}
+use Rattle.standing.proofs.Laws.{Called, called, refused, refused-call}
 use Rattle.lookup.proofs.lookup.Statement.{statement}
 use Rattle.lookup.proofs.lookup.Tie as tie
 

@@ -5,15 +5,15 @@ use native.Mathlib.Omega.{arith}
 use borrow.Author.Needs.{needs}
 use lib.ListN.{getD}
 use Rattle.model.specs.Table.{membersIn}
-use Rattle.ring.specs.Places.{nextPlace}
-use Rattle.ring.proofs.Laws.{best-at, best-most}
-use Rattle.moves.specs.Ways.{movesAt, noMore, Begun, Along}
-use Rattle.moves.proofs.Ways.{stored-first, stored-begun, along}
+use Rattle.best_successors.specs.Places.{nextPlace}
+use Rattle.best_successors.proofs.Laws.{best-at, best-most}
+use Rattle.moves.specs.Ways.{movesAt, noMore, AllSoFar, Along}
+use Rattle.moves.proofs.Ways.{stored-first, stored-so-far, along}
 use Rattle.moves.proofs.store_way.Statement.{statement}
 use Rattle.moves.proofs.store_way.Tie as tie
 
 abbrev Inv-loop : tie.InvT-loop
-Inv-loop t best a₀ k n v y₀ left₀ a y left = (left ≤ left₀) × Begun t a × Along t v left y × (left ≡ left₀ → y ≡ k) × (left < left₀ → getD a k 0 ≡ movesAt t k + 1)
+Inv-loop t best a₀ k n v y₀ left₀ a y left = (left ≤ left₀) × AllSoFar t a × Along t v left y × (left ≡ left₀ → y ≡ k) × (left < left₀ → getD a k 0 ≡ movesAt t k + 1)
 
 abbrev μ-loop : tie.MeasureT-loop
 μ-loop t best a₀ k n v y₀ left₀ a y left = left
@@ -25,7 +25,9 @@ loop-holds : tie.Need-loop-holds Inv-loop μ-loop
 loop-holds c = let s = c .before .before in (search needs, s .pre .1 .1 .0, s .pre .1 .1 .1 .way, λ e. refl, λ h. absurd (omega arith))
 
 -- the place stood at and the others left
-here : (i : tie.In-loop Inv-loop μ-loop) → let ws = start i .args .t .now in let l = i .before .loop in (l .y < getD ws 1 0) × (movesAt ws (l .y) ≡ noMore (start i .args .way .value + l .left) (getD ws 1 0)) × Along ws (start i .args .way .value) (l .left - 1) (nextPlace (membersIn ws) (l .y))
+here : (i : tie.In-loop Inv-loop μ-loop) → let ws = start i .args .t .now in let l = i .before .loop in (l .y < getD ws 1 0)
+    × (movesAt ws (l .y) ≡ noMore (start i .args .way .value + l .left) (getD ws 1 0))
+    × Along ws (start i .args .way .value) (l .left - 1) (nextPlace (membersIn ws) (l .y))
 here i = let l = i .before .loop in along (start i .args .t .now) (start i .args .way .value) (l .left) (l .y) (i .loop-test .taken) (l .inv .2)
 
 -- where a move leads from there
@@ -57,15 +59,21 @@ loop-again c =
     let s = start i in
     let ws = s .args .t .now in
     let w = here i in
-    let e = c .before .no-more .ensures in
-    (search needs, stored-begun ws (l .a) (l .y) _ (w .0) (l .inv .1) (omega (arith, e, w .1)), rw (entry i) (w .2), λ q. absurd (omega arith), λ q. stored-first ws (l .a) (l .y) _ (w .0) (l .inv .1) (omega (arith, e, w .1)) (s .args .k) (l .left) _ (l .inv .0) (l .inv .3) (l .inv .4))
+    let e = c .before .no-more .ensures in (
+      search needs,
+      stored-so-far ws (l .a) (l .y) _ (w .0) (l .inv .1) (omega (arith, e, w .1)),
+      rw (entry i) (w .2),
+      λ q. absurd (omega arith),
+      λ q. stored-first ws (l .a) (l .y) _ (w .0) (l .inv .1) (omega (arith, e, w .1)) (s .args .k) (l .left) _ (l .inv .0) (l .inv .3) (l .inv .4),
+    )
 
 returns : tie.Need-returns Inv-loop μ-loop
 returns c =
     let l = c .before .loop in
     let s = c .before .before .before .before in
-    record { begun = l .inv .1; here = l .inv .4 (omega (arith, s .pre .1 .1 .1 .some)) }
+    record { so-far = l .inv .1; here = l .inv .4 (omega (arith, s .pre .1 .1 .1 .some)) }
 
 pub store-way-spec : {M : Type 1} → statement M
 store-way-spec =
-    tie.close (tie.spec Inv-loop μ-loop (λ c. search needs) (λ c. search needs) loop-holds (λ c. search needs) (λ c. search needs) (λ c κs. search needs) (λ c. search needs) mul-a element-write-a mul-y element-copy-out-y cast-y (λ c. search needs) (λ c. search needs) loop-again returns)
+    tie.close (tie.spec Inv-loop μ-loop (λ c. search needs) (λ c. search needs) loop-holds (λ c. search needs) (λ c. search needs) (λ c κs. search needs)
+    (λ c. search needs) mul-a element-write-a mul-y element-copy-out-y cast-y (λ c. search needs) (λ c. search needs) loop-again returns)

@@ -7,8 +7,8 @@ use borrow.Author.Needs.{needs}
 use lib.ListN.{getD}
 use Rattle.model.specs.Table.{membersIn, ids}
 use Rattle.model.specs.Ring.{onRing}
-use Rattle.ring.specs.Places.{nextPlace}
-use Rattle.ring.proofs.Laws.{best-at, best-most}
+use Rattle.best_successors.specs.Places.{nextPlace}
+use Rattle.best_successors.proofs.Laws.{best-at, best-most}
 use Rattle.moves.specs.Ways.{movesAt}
 use Rattle.moves.proofs.Moves.{moves-few}
 use Rattle.moves.proofs.Ways.{Leads, is-known, is-off, leads-none, leads-stuck, leads-on, leads-known, leads-never}
@@ -53,7 +53,12 @@ returns c =
     let i = c .before .before in
     let l = i .before .loop in
     let s = start i in
-    record { some = omega arith; most = omega arith; value = omega arith; way = leads-stuck (s .args .t .now) (s .args .k) (l .c) (l .y) _ (s .pre .0) (l .inv .0) (off i) (entry i) (l .inv .3) _ (omega arith) (c .if1 .taken) }
+    record {
+      some = omega arith;
+      most = omega arith;
+      value = omega arith;
+      way = leads-stuck (s .args .t .now) (s .args .k) (l .c) (l .y) _ (s .pre .0) (l .inv .0) (off i) (entry i) (l .inv .3) _ (omega arith) (c .if1 .taken);
+    }
 
 returns-2 : tie.Need-returns-2 Inv-loop μ-loop
 returns-2 c =
@@ -78,4 +83,5 @@ returns-3 c =
 
 pub way-from-spec : {M : Type 1} → statement M
 way-from-spec =
-    tie.close (tie.spec Inv-loop μ-loop (λ c. search needs) (λ c. search needs) (λ c. search needs) loop-holds (λ c. search needs) (λ c. search needs) cast-y (λ c. search needs) returns (λ c. search needs) (λ c. search needs) (λ c. search needs) returns-2 (λ c. search needs) loop-again returns-3)
+    tie.close (tie.spec Inv-loop μ-loop (λ c. search needs) (λ c. search needs) (λ c. search needs) loop-holds (λ c. search needs) (λ c. search needs) cast-y
+    (λ c. search needs) returns (λ c. search needs) (λ c. search needs) (λ c. search needs) returns-2 (λ c. search needs) loop-again returns-3)

@@ -26,16 +26,22 @@ loop-again : tie.Need-loop-again Inv-loop μ-loop
 loop-again c =
     let p = c .before in
     let k = p .before .before .loop in
-    let a = p .before .before .before .before .before .before .before .before .before .args in
-    (omega arith, p .place-above .ensures .0, simp length-set (k .inv .2), ups-on (a .xs .now) (k .part) (a .r) (k .k) (getD (a .xs .now) (k .j) 0) _ _ (omega arith) (p .place-above .ensures .1) (k .inv .3))
+    let a = p .before .before .before .before .before .before .before .before .before .args in (
+      omega arith,
+      p .place-above .ensures .0,
+      simp length-set (k .inv .2),
+      ups-on (a .xs .now) (k .part) (a .r) (k .k) (getD (a .xs .now) (k .j) 0) _ _ (omega arith) (p .place-above .ensures .1) (k .inv .3),
+    )
 
 returns : tie.Need-returns Inv-loop μ-loop
 returns c =
     let k = c .before .loop in
     let w = c .before .before .before .before in
     let a = w .before .before .before .before .args in
-    ups-done (a .xs .now) (k .part) (a .r) (k .k) _ _ (omega arith) (k .inv .3) ∙ record-stored (a .xs .now) (a .part .now) _ _ (a .r) (getD (a .xs .now) (a .i) 0) (w .write-front .ensures) refl (omega arith)
+    ups-done (a .xs .now) (k .part) (a .r) (k .k) _ _ (omega arith) (k .inv .3)
+    ∙ record-stored (a .xs .now) (a .part .now) _ _ (a .r) (getD (a .xs .now) (a .i) 0) (w .write-front .ensures) refl (omega arith)
 
 pub write-round-spec : {M : Type 1} → statement M
 write-round-spec =
-    tie.close (tie.spec Inv-loop μ-loop (λ c κs. search needs) loop-holds (λ c κs. search needs) (λ c. search needs) (λ c. search needs) (λ c. search needs) (λ c. search needs) (λ c. search needs) (λ c. search needs) (λ c. search needs) loop-again (λ c. search needs) returns)
+    tie.close (tie.spec Inv-loop μ-loop (λ c κs. search needs) loop-holds (λ c κs. search needs) (λ c. search needs) (λ c. search needs) (λ c. search needs)
+    (λ c. search needs) (λ c. search needs) (λ c. search needs) (λ c. search needs) loop-again (λ c. search needs) returns)

@@ -19,8 +19,11 @@ returns c =
     let a = first .before .before .before .before .before .args in
     let eight = numbersAt 8 (a .bs .now) in
     let more = numbersAt (a .n - 8) (drop 32 (a .bs .now)) in
-    placed-then (a .at) 8 eight more (a .t .now) (first .get-run .last .0) _ (omega arith) refl (first .get-run .ensures) (rw part-from at (second .get-run2 .ensures)) ∙ ap (λ (l : List ℕ). placed (a .at) l (a .t .now)) (numbers-more 8 (a .n - 8) (a .n) (a .bs .now) (omega arith))
+    placed-then (a .at) 8 eight more (a .t .now) (first .get-run .last .0) _ (omega arith) refl (first .get-run .ensures)
+    (rw part-from at (second .get-run2 .ensures)) ∙ ap (λ (l : List ℕ). placed (a .at) l (a .t .now))
+    (numbers-more 8 (a .n - 8) (a .n) (a .bs .now) (omega arith))
 
 pub get-words-spec : {M : Type 1} → statement M
 get-words-spec =
-    tie.close (tie.spec (λ c κs. search needs) (λ c. search needs) (λ c. search needs) (λ c. search needs) (λ c. search needs) (λ c κs. search needs) (λ c. search needs) returns (λ c κs. search needs) (λ c. search needs) (λ c. search needs))
+    tie.close (tie.spec (λ c κs. search needs) (λ c. search needs) (λ c. search needs) (λ c. search needs) (λ c. search needs) (λ c κs. search needs)
+    (λ c. search needs) returns (λ c κs. search needs) (λ c. search needs) (λ c. search needs))

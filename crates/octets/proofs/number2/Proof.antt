@@ -20,7 +20,10 @@ add-result-2 : tie.Need-add-result-2
 add-result-2 c = omega (arith, c .before .shared-slice-known .given (c .before .before .args .at), c .shared-slice-known2 .given (c .before .before .args .at + 1))
 
 returns : tie.Need-returns
-returns c = (sym (two-at (c .before .before .args .bs .now) (c .before .before .args .at) (omega arith)), omega (arith, c .before .shared-slice-known .given (c .before .before .args .at), c .shared-slice-known2 .given (c .before .before .args .at + 1)))
+returns c = (
+  sym (two-at (c .before .before .args .bs .now) (c .before .before .args .at) (omega arith)),
+  omega (arith, c .before .shared-slice-known .given (c .before .before .args .at), c .shared-slice-known2 .given (c .before .before .args .at + 1)),
+)
 
 pub number2-spec : {M : Type 1} → statement M
 number2-spec =

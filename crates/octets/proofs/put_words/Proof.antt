@@ -29,8 +29,12 @@ loop-again c =
     let k = c .before .before .before .before .before .before .loop in
     let a = c .before .before .before .before .before .before .before .before .before .args in
     let h : k .i < length (a .ws .now) = omega arith in
-    let n : length (wrote .last .0) ≡ length (k .out) = ap length (wrote .ensures) ∙ placed-length (a .at + 4 * k .i) (bytesOf 4 (getD (a .ws .now) (k .i) 0)) (k .out) (omega arith) in
-    (omega arith, n ∙ k .inv .1, ap (λ (l : List ℕ). placed (a .at + 4 * (k .i + 1)) (words4 (drop (k .i + 1) (a .ws .now))) l) (wrote .ensures) ∙ word-turn (a .at) (k .i) (a .ws .now) (k .out) h (omega arith) ∙ k .inv .2)
+    let n : length (wrote .last .0) ≡ length (k .out) = ap length (wrote .ensures) ∙ placed-length (a .at + 4 * k .i) (bytesOf 4 (getD (a .ws .now) (k .i) 0)) (k .out) (omega arith) in (
+      omega arith,
+      n ∙ k .inv .1,
+      ap (λ (l : List ℕ). placed (a .at + 4 * (k .i + 1)) (words4 (drop (k .i + 1) (a .ws .now))) l) (wrote .ensures)
+          ∙ word-turn (a .at) (k .i) (a .ws .now) (k .out) h (omega arith) ∙ k .inv .2,
+    )
 
 returns : tie.Need-returns Inv-loop μ-loop
 returns c =
@@ -42,4 +46,5 @@ returns c =
 
 pub put-words-spec : {M : Type 1} → statement M
 put-words-spec =
-    tie.close (tie.spec Inv-loop μ-loop loop-holds (λ c. search needs) (λ c. search needs) (λ c. search needs) (λ c. search needs) (λ c κs. search needs) (λ c. search needs) (λ c. search needs) loop-again (λ c. search needs) returns)
+    tie.close (tie.spec Inv-loop μ-loop loop-holds (λ c. search needs) (λ c. search needs) (λ c. search needs) (λ c. search needs) (λ c κs. search needs)
+    (λ c. search needs) (λ c. search needs) loop-again (λ c. search needs) returns)

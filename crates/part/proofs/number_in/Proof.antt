@@ -54,8 +54,10 @@ returns-6 : tie.Need-returns-6 Inv-loop μ-loop
 returns-6 c =
     let k = c .before in
     let p = k .before .before .before .args .p .now in
-    is-number p (omega arith) (omega arith) (sym (k .loop .inv .2) ∙ all-digits p (k .loop .i) (omega arith)) (k .loop .v) (sym (k .loop .inv .3) ∙ all-value p (k .loop .i) (k .loop .v) (omega arith)) (k .loop .inv .1)
+    is-number p (omega arith) (omega arith) (sym (k .loop .inv .2) ∙ all-digits p (k .loop .i) (omega arith)) (k .loop .v)
+    (sym (k .loop .inv .3) ∙ all-value p (k .loop .i) (k .loop .v) (omega arith)) (k .loop .inv .1)
 
 pub number-in-spec : {M : Type 1} → statement M
 number-in-spec =
-    tie.close (tie.spec Inv-loop μ-loop returns returns-2 loop-holds (λ c. search needs) returns-3 returns-4 (λ c. search needs) (λ c. search needs) (λ c. search needs) returns-5 (λ c. search needs) (λ c. search needs) loop-again (λ c. search needs) returns-6)
+    tie.close (tie.spec Inv-loop μ-loop returns returns-2 loop-holds (λ c. search needs) returns-3 returns-4 (λ c. search needs) (λ c. search needs)
+    (λ c. search needs) returns-5 (λ c. search needs) (λ c. search needs) loop-again (λ c. search needs) returns-6)

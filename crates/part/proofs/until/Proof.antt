@@ -19,8 +19,11 @@ abbrev μ-loop : tie.MeasureT-loop
 returns : tie.Need-returns Inv-loop μ-loop
 returns c =
     let i = c .before .before in
-    let a = i .before .before .args in
-    (omega (arith, reach-here (a .b) (a .s .now) (i .before .loop .i) (i .loop-test .taken) (c .if1 .taken)), search needs, sym (length-take-le (i .before .loop .i) (a .s .now) (i .before .loop .inv .0)))
+    let a = i .before .before .args in (
+      omega (arith, reach-here (a .b) (a .s .now) (i .before .loop .i) (i .loop-test .taken) (c .if1 .taken)),
+      search needs,
+      sym (length-take-le (i .before .loop .i) (a .s .now) (i .before .loop .inv .0)),
+    )
 
 loop-again : tie.Need-loop-again Inv-loop μ-loop
 loop-again c =

@@ -30,7 +30,12 @@ returns-4 c =
     let d3 = c .before .before .before in
     let d2 = d3 .before .before .before in
     let d1 = d2 .before .before .before in
-    rw (sym (d1 .before .same .ensures) ∙ d1 .if1 .left, sym (d2 .before .same2 .ensures) ∙ d2 .if2 .left, sym (d3 .before .same3 .ensures) ∙ d3 .if3 .left, sym (c .before .same4 .ensures) ∙ c .if4 .taken)
+    rw (
+      sym (d1 .before .same .ensures) ∙ d1 .if1 .left,
+      sym (d2 .before .same2 .ensures) ∙ d2 .if2 .left,
+      sym (d3 .before .same3 .ensures) ∙ d3 .if3 .left,
+      sym (c .before .same4 .ensures) ∙ c .if4 .taken,
+    )
 
 returns-5 : tie.Need-returns-5
 unfolding wordOf laterOf
@@ -39,8 +44,14 @@ returns-5 c =
     let d3 = d4 .before .before .before in
     let d2 = d3 .before .before .before in
     let d1 = d2 .before .before .before in
-    c .later-word .ensures ∙ rw (sym (d1 .before .same .ensures) ∙ d1 .if1 .left, sym (d2 .before .same2 .ensures) ∙ d2 .if2 .left, sym (d3 .before .same3 .ensures) ∙ d3 .if3 .left, sym (d4 .before .same4 .ensures) ∙ d4 .if4 .left)
+    c .later-word .ensures ∙ rw (
+      sym (d1 .before .same .ensures) ∙ d1 .if1 .left,
+      sym (d2 .before .same2 .ensures) ∙ d2 .if2 .left,
+      sym (d3 .before .same3 .ensures) ∙ d3 .if3 .left,
+      sym (d4 .before .same4 .ensures) ∙ d4 .if4 .left,
+    )
 
 pub word-spec : {M : Type 1} → statement M
 word-spec =
-    tie.close (tie.spec (λ c. search needs) (λ c κs. search needs) returns (λ c. search needs) (λ c κs. search needs) returns-2 (λ c. search needs) (λ c κs. search needs) returns-3 (λ c. search needs) (λ c κs. search needs) returns-4 (λ c κs. search needs) returns-5)
+    tie.close (tie.spec (λ c. search needs) (λ c κs. search needs) returns (λ c. search needs) (λ c κs. search needs) returns-2 (λ c. search needs)
+    (λ c κs. search needs) returns-3 (λ c. search needs) (λ c κs. search needs) returns-4 (λ c κs. search needs) returns-5)

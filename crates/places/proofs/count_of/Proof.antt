@@ -23,14 +23,18 @@ loop-holds : tie.Need-loop-holds Inv-loop μ-loop
 loop-holds c = (search needs, search needs, zero-add _)
 
 -- by either arm the count takes the test's bit
-tested : (c : tie.Joined1 Inv-loop μ-loop) → let l = c .before .before .before .loop in let a = c .before .before .before .before .args in c .if1 .c ≡ l .c + bit (eqb (a .v) (getD (a .a .now) (l .k) 0))
+tested : (c : tie.Joined1 Inv-loop μ-loop) → let l = c .before .before .before .loop in let a =
+    c .before .before .before .before .args in c .if1 .c ≡ l .c + bit (eqb (a .v) (getD (a .a .now) (l .k) 0))
 tested c = ⊎-elim (λ w. rw (w .1, eq-eqb _ _ (w .0 .taken))) (λ w. rw (w .1, ne-eqb _ _ (w .0 .left)) (sym (add-zero _))) (c .if1 .came)
 
 loop-again : tie.Need-loop-again Inv-loop μ-loop
 loop-again c =
     let l = c .before .before .before .loop in
-    let a = c .before .before .before .before .args in
-    (search needs, ⊎-elim (λ w. omega arith) (λ w. omega arith) (c .if1 .came), count-one (eqb (a .v)) (a .a .now) (a .n) (omega arith) (l .k) (l .c) (c .if1 .c) _ (c .before .before .loop-test .taken) refl (tested c) ∙ l .inv .2)
+    let a = c .before .before .before .before .args in (
+      search needs,
+      ⊎-elim (λ w. omega arith) (λ w. omega arith) (c .if1 .came),
+      count-one (eqb (a .v)) (a .a .now) (a .n) (omega arith) (l .k) (l .c) (c .if1 .c) _ (c .before .before .loop-test .taken) refl (tested c) ∙ l .inv .2,
+    )
 
 returns : tie.Need-returns Inv-loop μ-loop
 returns c =

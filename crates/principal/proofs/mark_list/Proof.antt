@@ -47,8 +47,11 @@ loop-again c =
     let m = c .before .before in
     let i = m .before .before .before .before in
     let l = i .before .loop in
-    let ws = start (i .before .before .before .before) .args .t .now in
-    (m .mark-pair .ensures .size ∙ l .inv .0, c .before .rank-past .ensures, λ j h. rw (part-from 1 (l .p .now)) (pair-marked ws _ _ (l .q) (l .p .now) (i .loop-test .taken) (m .mark-pair .ensures) j h ∙ l .inv .2 j h))
+    let ws = start (i .before .before .before .before) .args .t .now in (
+      m .mark-pair .ensures .size ∙ l .inv .0,
+      c .before .rank-past .ensures,
+      λ j h. rw (part-from 1 (l .p .now)) (pair-marked ws _ _ (l .q) (l .p .now) (i .loop-test .taken) (m .mark-pair .ensures) j h ∙ l .inv .2 j h),
+    )
 
 returns : tie.Need-returns Inv-loop μ-loop
 returns c =
@@ -58,4 +61,7 @@ returns c =
 
 pub mark-list-spec : {M : Type 1} → statement M
 mark-list-spec =
-    tie.close (tie.spec Inv-loop μ-loop (λ c. search needs) (λ c. search needs) (λ c κs. search needs) (λ c. search needs) (λ c. search needs) (λ c. search needs) (λ c. search needs) (λ c. search needs) part-p-end (λ c. search needs) shared-slice-read-q (λ c. search needs) loop-holds (λ c. search needs) (λ c κs. search needs) (λ c κs. search needs) (λ c κs. search needs) (λ c. search needs) (λ c. search needs) (λ c. search needs) (λ c. search needs) loop-again returns)
+    tie.close (tie.spec Inv-loop μ-loop (λ c. search needs) (λ c. search needs) (λ c κs. search needs) (λ c. search needs) (λ c. search needs)
+    (λ c. search needs) (λ c. search needs) (λ c. search needs) part-p-end (λ c. search needs) shared-slice-read-q (λ c. search needs) loop-holds
+    (λ c. search needs) (λ c κs. search needs) (λ c κs. search needs) (λ c κs. search needs) (λ c. search needs) (λ c. search needs) (λ c. search needs)
+    (λ c. search needs) loop-again returns)

@@ -41,12 +41,20 @@ loop-again c =
     let i = h .before in
     let l = i .before .loop in
     let s = i .before .before in
-    let e = not-covered (reaches s) (l .k) (h .larger .result) (higher h) in
-    (search needs, simp length-set (l .inv .1), higher h, each-stored _ _ (l .k) (l .a) _ (omega arith) (l .inv .3) (c .bit .ensures ∙ ap bit (e ∙ sym (s .mark-skipped .ensures .1 .at (l .k) (i .loop-test .taken)))), unread-stored (reaches s) (l .k) (l .a) _ (l .inv .4))
+    let e = not-covered (reaches s) (l .k) (h .larger .result) (higher h) in (
+      search needs,
+      simp length-set (l .inv .1),
+      higher h,
+      each-stored _ _ (l .k) (l .a) _ (omega arith) (l .inv .3)
+          (c .bit .ensures ∙ ap bit (e ∙ sym (s .mark-skipped .ensures .1 .at (l .k) (i .loop-test .taken)))),
+      unread-stored (reaches s) (l .k) (l .a) _ (l .inv .4),
+    )
 
 returns : tie.Need-returns Inv-loop μ-loop
 returns c = each-all _ _ _ (c .before .loop .k) _ (c .loop-test .left) (c .before .loop .inv .3)
 
 pub principal-bits-spec : {M : Type 1} → statement M
 principal-bits-spec =
-    tie.close (tie.spec Inv-loop μ-loop (λ c. search needs) (λ c. search needs) (λ c κs. search needs) loop-holds (λ c. search needs) (λ c. search needs) (λ c κs. search needs) (λ c. search needs) (λ c κs. search needs) (λ c. search needs) (λ c. search needs) (λ c. search needs) (λ c. search needs) loop-again returns)
+    tie.close (tie.spec Inv-loop μ-loop (λ c. search needs) (λ c. search needs) (λ c κs. search needs) loop-holds (λ c. search needs) (λ c. search needs)
+    (λ c κs. search needs) (λ c. search needs) (λ c κs. search needs) (λ c. search needs) (λ c. search needs) (λ c. search needs) (λ c. search needs)
+    loop-again returns)

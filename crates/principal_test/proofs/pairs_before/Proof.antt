@@ -42,7 +42,8 @@ returns c =
     let l = i .before .loop in
     let o = i .before .before .before in
     let s = start o in
-    count-here (s .args .t .now) (s .pre .0) (s .args .k) (o .offset .result) (s .pre .1) (o .offset .ensures .0) (s .args .x) (l .a) (l .i) (l .inv .1) (i .loop-test .taken) (sym (b .between .ensures) ∙ c .if1 .taken)
+    count-here (s .args .t .now) (s .pre .0) (s .args .k) (o .offset .result) (s .pre .1) (o .offset .ensures .0) (s .args .x) (l .a) (l .i) (l .inv .1)
+    (i .loop-test .taken) (sym (b .between .ensures) ∙ c .if1 .taken)
 
 loop-again : tie.Need-loop-again Inv-loop μ-loop
 loop-again c =
@@ -50,8 +51,11 @@ loop-again c =
     let i = b .before .before in
     let l = i .before .loop in
     let o = i .before .before .before in
-    let s = start o in
-    (omega arith, count-on (s .args .t .now) (s .pre .0) (s .args .k) (o .offset .result) (s .pre .1) (o .offset .ensures .0) (s .args .x) (l .a) (l .i) (l .inv .1) (i .loop-test .taken) (sym (b .between .ensures) ∙ c .if1 .left))
+    let s = start o in (
+      omega arith,
+      count-on (s .args .t .now) (s .pre .0) (s .args .k) (o .offset .result) (s .pre .1) (o .offset .ensures .0) (s .args .x) (l .a) (l .i)
+          (l .inv .1) (i .loop-test .taken) (sym (b .between .ensures) ∙ c .if1 .left),
+    )
 
 returns-2 : tie.Need-returns-2 Inv-loop μ-loop
 returns-2 c =
@@ -62,4 +66,6 @@ returns-2 c =
 
 pub pairs-before-spec : {M : Type 1} → statement M
 pairs-before-spec =
-    tie.close (tie.spec Inv-loop μ-loop (λ c. search needs) (λ c. search needs) (λ c κs. search needs) (λ c. search needs) (λ c. search needs) shared-slice-read-a loop-holds (λ c. search needs) (λ c. search needs) shared-slice-read-b (λ c κs. search needs) returns (λ c. search needs) (λ c. search needs) loop-again returns-2)
+    tie.close (tie.spec Inv-loop μ-loop (λ c. search needs) (λ c. search needs) (λ c κs. search needs) (λ c. search needs) (λ c. search needs)
+    shared-slice-read-a loop-holds (λ c. search needs) (λ c. search needs) shared-slice-read-b (λ c κs. search needs) returns (λ c. search needs)
+    (λ c. search needs) loop-again returns-2)

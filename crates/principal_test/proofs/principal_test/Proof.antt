@@ -2,7 +2,7 @@
 use mathlib.Core.Path.{sym, _∙_}
 use borrow.Author.Needs.{needs}
 use Rattle.model.specs.Calls.{principalAnswer}
-use Rattle.refusal.proofs.Laws.{Called, called, refused, refused-call}
+use Rattle.standing.proofs.Laws.{Called, called, refused, refused-call}
 use Rattle.principal_test.proofs.principal_test.Statement.{statement}
 use Rattle.principal_test.proofs.principal_test.Tie as tie
 

@@ -32,7 +32,8 @@ returns c =
     let i = p .before in
     let l = i .before .loop in
     let s = start (i .before) in
-    ap accepted (ends-here (s .args .t .now) (s .pre) (s .args .x) (l .taken) _ (p .pairs-before .result) (omega (arith, i .loop-test .taken, l .inv .0)) (p .pairs-before .ensures) (c .if1 .taken) ∙ l .inv .2)
+    ap accepted (ends-here (s .args .t .now) (s .pre) (s .args .x) (l .taken) _ (p .pairs-before .result) (omega (arith, i .loop-test .taken, l .inv .0))
+    (p .pairs-before .ensures) (c .if1 .taken) ∙ l .inv .2)
 
 loop-again : tie.Need-loop-again Inv-loop μ-loop
 loop-again c =
@@ -42,7 +43,8 @@ loop-again c =
     let s = start (i .before) in
     let n : ℕ = getD (s .args .t .now) 1 0 in
     let e : n - (l .left - 1) ≡ suc (n - l .left) = omega (arith, i .loop-test .taken, l .inv .0) in
-    let on = goes-on (s .args .t .now) (s .pre) (s .args .x) (l .taken) (n - l .left) (p .pairs-before .result) (omega (arith, i .loop-test .taken, l .inv .0)) (p .pairs-before .ensures) (c .if1 .left) in
+    let on = goes-on (s .args .t .now) (s .pre) (s .args .x) (l .taken) (n - l .left) (p .pairs-before .result) (omega (arith, i .loop-test .taken, l .inv .0))
+    (p .pairs-before .ensures) (c .if1 .left) in
     (omega (arith, l .inv .0), omega (arith, l .inv .1, l .inv .0, i .loop-test .taken, s .pre .r-high), ap (replyFrom (s .args .t .now) (s .args .x) _) e ∙ (on ∙ l .inv .2))
 
 returns-2 : tie.Need-returns-2 Inv-loop μ-loop
@@ -54,4 +56,6 @@ returns-2 c =
 
 pub test-pairs-spec : {M : Type 1} → statement M
 test-pairs-spec =
-    tie.close (tie.spec Inv-loop μ-loop (λ c. search needs) (λ c. search needs) (λ c. search needs) (λ c. search needs) loop-holds (λ c. search needs) pairs-before-requires (λ c. search needs) (λ c. search needs) (λ c. search needs) returns (λ c. search needs) (λ c. search needs) (λ c. search needs) loop-again (λ c. search needs) returns-2)
+    tie.close (tie.spec Inv-loop μ-loop (λ c. search needs) (λ c. search needs) (λ c. search needs) (λ c. search needs) loop-holds (λ c. search needs)
+    pairs-before-requires (λ c. search needs) (λ c. search needs) (λ c. search needs) returns (λ c. search needs) (λ c. search needs) (λ c. search needs)
+    loop-again (λ c. search needs) returns-2)

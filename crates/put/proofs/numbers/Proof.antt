@@ -12,13 +12,15 @@ use Rattle.put.proofs.numbers.Statement.{statement}
 use Rattle.put.proofs.numbers.Tie as tie
 
 abbrev Inv-loop : tie.InvT-loop
-Inv-loop out₀ at vs n k₀ i₀ out k i = (i ≤ n) × (length out ≡ length out₀) × (k + length (numbersText (drop i vs)) ≡ at + length (numbersText vs)) × (sets out k (numbersText (drop i vs)) ≡ sets out₀ at (numbersText vs))
+Inv-loop out₀ at vs n k₀ i₀ out k i = (i ≤ n) × (length out ≡ length out₀) × (k + length (numbersText (drop i vs)) ≡ at + length (numbersText vs))
+    × (sets out k (numbersText (drop i vs)) ≡ sets out₀ at (numbersText vs))
 
 abbrev μ-loop : tie.MeasureT-loop
 μ-loop out₀ at vs n k₀ i₀ out k i = n - i
 
 -- room for the space and the number
-room : (c : tie.In-loop Inv-loop μ-loop) → let k = c .before .loop in let v = getD (c .before .before .before .before .args .vs .now) (k .i) 0 in (k .k < length (k .out)) × (k .k + 1 + length (digits v) ≤ length (k .out))
+room : (c : tie.In-loop Inv-loop μ-loop) → let k = c .before .loop in let v =
+    getD (c .before .before .before .before .args .vs .now) (k .i) 0 in (k .k < length (k .out)) × (k .k + 1 + length (digits v) ≤ length (k .out))
 room c =
     let k = c .before .loop in
     let s = c .before .before .before .before in
@@ -54,4 +56,5 @@ returns c =
 
 pub numbers-spec : {M : Type 1} → statement M
 numbers-spec =
-    tie.close (tie.spec Inv-loop μ-loop loop-holds slice-write-out add-number (λ c. search needs) (λ c. search needs) number-requires (λ c. search needs) (λ c. search needs) loop-again (λ c. search needs) returns)
+    tie.close (tie.spec Inv-loop μ-loop loop-holds slice-write-out add-number (λ c. search needs) (λ c. search needs) number-requires (λ c. search needs)
+    (λ c. search needs) loop-again (λ c. search needs) returns)

@@ -43,10 +43,10 @@ use denote.Triple.Spec.{Meets, tripleOf}
 use denote.Triple.Table.{entered, cited}
 use denote.Triple.Walked.{Stays, says, stay-none, walkOf, goes-none, Walks, ends-at, walked, walk-meets}
 use denote.Exit.{yes}
-use Rattle.field.specs.Answers.{answerOf}
-use Rattle.field.specs.declared.Field.{Field}
-use Rattle.field.proofs.Field as S
-use Rattle.field.proofs.Field.Laws as S′
+use Rattle.answers.specs.Field.{answerOf}
+use Rattle.answers.specs.declared.field.Field.{Field}
+use Rattle.answers.proofs.field.Field as S
+use Rattle.answers.proofs.field.Field.Laws as S′
 use Rattle.reader.specs.Read.{contentsOf}
 use Rattle.reader.specs.declared.Reader.{Reader}
 use Rattle.reader.proofs.Reader as T
@@ -76,7 +76,8 @@ module _ {M : Type 1} (𝓤 : URA M) (H : Heap 𝓤) (A : Atoms 𝓤) (mem : Mem
   abbrev PartOf : Contract 𝓤
   PartOf = tripleOf 𝓤 H A part-of.signature (part-of.spec 𝓤 H A mem run)
 
-module _ {M : Type 1} (𝓤 : URA M) (H : Heap 𝓤) (A : Atoms 𝓤) (W : Given 𝓤 H A) (mem : Memory → SProp 𝓤) (run : Routine → Fun 𝓤) (κ : Lft) (q : Share) (d : Reader) (f : Field) (gf : Is S.the-row f (EL.vals S.the-type S′.the-laws f)) where
+module _ {M : Type 1} (𝓤 : URA M) (H : Heap 𝓤) (A : Atoms 𝓤) (W : Given 𝓤 H A) (mem : Memory → SProp 𝓤) (run : Routine → Fun 𝓤) (κ : Lft) (q : Share)
+    (d : Reader) (f : Field) (gf : Is S.the-row f (EL.vals S.the-type S′.the-laws f)) where
   -- the machine values of the reader, of its image and of the reply
   abbrev m : Val
   m = T′.lowered d
@@ -143,7 +144,8 @@ module _ {M : Type 1} (𝓤 : URA M) (H : Heap 𝓤) (A : Atoms 𝓤) (W : Given
       move ! (1 ∷ []) $ fsplit ! $ move ! (1 ∷ []) $ drop ! $
       -- [what the reader owns; the token]
       use1 W (‵ Own ⊛ ‵ Own) (LL.copy D (T′.the-copy (namedLft 1 0 tt (κ, tt))) 𝓤 H A W .twice d (m ∷ [])) $ split ! $
-      use1 W (given (m ∷ [] ≡ m ∷ []) (‵ (all-own (D .parts) L vd))) (own-open 𝓤 H A W D L vd m) $ learn ! (λ _. use1 W (‵ (ownAt (D .parts) L 0 (d .image)) ⊛ ‵ (rest (D .parts) L 0 vd)) (own-out 𝓤 H A W (D .parts) L 0 vd) $ split ! $
+      use1 W (given (m ∷ [] ≡ m ∷ []) (‵ (all-own (D .parts) L vd))) (own-open 𝓤 H A W D L vd m)
+      $ learn ! (λ _. use1 W (‵ (ownAt (D .parts) L 0 (d .image)) ⊛ ‵ (rest (D .parts) L 0 vd)) (own-out 𝓤 H A W (D .parts) L 0 vd) $ split ! $
       -- [what the image owns; what the position owns; what the reader owns; the token]
       move ! (1 ∷ []) $ drop ! $ nothing ! $ owned ! S.the-row (Is S.the-row) (EL.makes S.the-type S′.the-plain 𝓤 H A) f _ gf $ fjoin ! $ move ! (1 ∷ 0 ∷ []) $ fjoin ! $
       -- [what the image and the reply own; what the reader owns; the token]
@@ -157,7 +159,8 @@ module _ {M : Type 1} (𝓤 : URA M) (H : Heap 𝓤) (A : Atoms 𝓤) (W : Given
   exits r u e =
       -- [the result; the token; what the reader owns]
       qed W (‵ (Bytes κ .own r (u ∷ [])) ∷ (‵ (flft κ q) ⊛ ‵ ftrue) ∷ ‵ Own ∷ []) ∵
-      suffices ! _ (ends-at 𝓤 H A contents.ended stayed (contents.clauses 𝓤 H A mem run) W (((κ, tt), (q, tt), tt, a, at), tt) u r (tt, (tt, tt)) (tt, (tt, tt))) $ says ! e $ move ! (1 ∷ []) $ frame ! $
+      suffices ! _ (ends-at 𝓤 H A contents.ended stayed (contents.clauses 𝓤 H A mem run) W (((κ, tt), (q, tt), tt, a, at), tt) u r (tt, (tt, tt))
+      (tt, (tt, tt))) $ says ! e $ move ! (1 ∷ []) $ frame ! $
       -- [the result; what the reader owns]
       nothing ! $ owned ! S.the-row (Is S.the-row) (EL.makes S.the-type S′.the-plain 𝓤 H A) f _ gf $ fjoin ! $ move ! (2 ∷ 0 ∷ []) $ fjoin ! $ frame ! $ done !
 
@@ -166,13 +169,16 @@ module _ {M : Type 1} (𝓤 : URA M) (H : Heap 𝓤) (A : Atoms 𝓤) (W : Given
     walk wt =
         qed W (raw (onEntry 𝓤 H A contents.signature (κ, tt) (q, tt) a at) ∷ []) ∵ enter ! C Λ code.function (m ∷ w ∷ []) _ $
         -- [room for _3; …; room for _2; …; room for _1; …; room for _0; …; what is owned at entry]
-        alloc1 ! (λ l₀. alloc1 ! (λ l₁. alloc1 ! (λ l₂. alloc1 ! (λ l₃. alloc0 ! $ params1 ! $ pass1 ! (init ! 4 refl wt) $ pass1 ! (init ! 2 refl (EL.lawful S.the-type S′.the-laws 𝓤 H A W tt .typed f _ gf .0)) $ pass0 ! $
+        alloc1 ! (λ l₀. alloc1 ! (λ l₁. alloc1 ! (λ l₂. alloc1
+        ! (λ l₃. alloc0 ! $ params1 ! $ pass1 ! (init ! 4 refl wt) $ pass1 ! (init ! 2 refl (EL.lawful S.the-type S′.the-laws 𝓤 H A W tt .typed f _ gf .0))
+        $ pass0 ! $
         -- _3 = _1.image
         assigns ! (of-opd ! (load ! (from ! (fld ! refl (stop !))) (look-in ! 4 (sub ! 0 refl (whole !))))) (from ! (stop !)) (init ! 0 refl (tt, wt .1 .0)) $
         move ! (8 ∷ []) $ use1 W (raw (PartOf 𝓤 H A mem run .pre to) ⊛ ‵ Own) apart $ split ! $
         -- [what the callee asks; what the reader owns; _3; …; _2; …; _1; …; room for _0; …]; _0 = part_of(_3, _2)
         calls-at ! fm (PartOf 𝓤 H A mem run) known to (and-then ! (load ! (from ! (stop !)) (look ! 2 refl)) (and-then ! (load ! (from ! (stop !)) (look ! 4 refl)) (no-more !))) (λ u.
-        use1 W (later (some (λ (r : Out). ((‵ (flft κ q) ⊛ ‵ ftrue) ⊛ ‵ (Bytes κ .own r (u ∷ []))) ⊛ raw (ensured 𝓤 H A part-of.ended (part-of.clauses 𝓤 H A mem run) (κ, tt) b tt r)))) (id⊢ 𝓤 _) $ await ! tt $ pick ! (λ r.
+        use1 W (later (some (λ (r : Out). ((‵ (flft κ q) ⊛ ‵ ftrue) ⊛ ‵ (Bytes κ .own r (u ∷ [])))
+        ⊛ raw (ensured 𝓤 H A part-of.ended (part-of.clauses 𝓤 H A mem run) (κ, tt) b tt r)))) (id⊢ 𝓤 _) $ await ! tt $ pick ! (λ r.
         split ! $ move ! (1 ∷ []) $ use1 W (raw (fact 𝓤 (now r ≡ found))) (said r) $ heard ! (now r ≡ found) (λ e. split ! $ move ! (1 ∷ []) $
         -- [the result; the token; what the reader owns; _3; …; _2; …; _1; …; room for _0; …]
         peeks ! (Bytes κ) (Is (Bytes κ)) (shows 𝓤 H A (Bytes κ)) r (u ∷ []) (λ is.
@@ -187,13 +193,16 @@ module _ {M : Type 1} (𝓤 : URA M) (H : Heap 𝓤) (A : Atoms 𝓤) (W : Given
       walked 𝓤 H A contents.ended stayed (contents.clauses 𝓤 H A mem run) (WpFn 𝓤 H C Λ code.function)
       (λ κs. (LL.vals (T.the-type (namedLft 1 0 tt κs)) (T′.the-laws (namedLft 1 0 tt κs)), (EL.vals S.the-type S′.the-laws, tt)))
       (λ κs. (LL.tells (T.the-type (namedLft 1 0 tt κs)) (T′.the-laws (namedLft 1 0 tt κs)), (EL.tells S.the-type S′.the-laws, tt)))
-      (λ κs qs bounds a g are. via 𝓤 _ (fst∗ 𝓤 _ (emp 𝓤)) (walk 𝓤 H A W mem run (κs .0) (qs .0) (a .0) (a .1 .0) (are .1 .0) C Λ fm known (LL.lawful (T.the-type (namedLft 1 0 tt κs)) (T′.the-laws (namedLft 1 0 tt κs)) 𝓤 H A W .typed (a .0) _ (are .0) .0)))
+      (λ κs qs bounds a g are. via 𝓤 _ (fst∗ 𝓤 _ (emp 𝓤))
+      (walk 𝓤 H A W mem run (κs .0) (qs .0) (a .0) (a .1 .0) (are .1 .0) C Λ fm known
+      (LL.lawful (T.the-type (namedLft 1 0 tt κs)) (T′.the-laws (namedLft 1 0 tt κs)) 𝓤 H A W .typed (a .0) _ (are .0) .0)))
 
 contents-meets : {M : Type 1} (𝓤 : URA M) (H : Heap 𝓤) (A : Atoms 𝓤) (W : Given 𝓤 H A) (mem : Memory → SProp 𝓤) (run : Routine → Fun 𝓤) (𝓣 : Tables 𝓤 H)
     → Triple 𝓤 (𝓣 .C #reader·part-of) (PartOf 𝓤 H A mem run)
     → Meets 𝓤 H A contents.signature (WpFn 𝓤 H (𝓣 .C) (𝓣 .Λ) code.function) (contents.spec 𝓤 H A mem run)
 contents-meets 𝓤 H A W mem run 𝓣 known =
-    walk-meets 𝓤 H A contents.ended stayed W (goes-none 𝓤 H A W 1 B yes (λ κs x g. refl), (goes-none 𝓤 H A W 1 (λ _. S.the-row) yes (λ κs x g. refl), tt)) (contents.clauses 𝓤 H A mem run) (WpFn 𝓤 H (𝓣 .C) (𝓣 .Λ) code.function) (WpFn-mono 𝓤 H (W .laws) 𝓣 code.function)
+    walk-meets 𝓤 H A contents.ended stayed W (goes-none 𝓤 H A W 1 B yes (λ κs x g. refl), (goes-none 𝓤 H A W 1 (λ _. S.the-row) yes (λ κs x g. refl), tt))
+    (contents.clauses 𝓤 H A mem run) (WpFn 𝓤 H (𝓣 .C) (𝓣 .Λ) code.function) (WpFn-mono 𝓤 H (W .laws) 𝓣 code.function)
     (contents-walks 𝓤 H A W mem run (𝓣 .C) (𝓣 .Λ) (fmOf 𝓤 H (W .laws) 𝓣) known)
 
 pub contents-spec : {M : Type 1} → stated.statement M

@@ -53,10 +53,10 @@ use Rattle.due.proofs.field_at as field-at
 use Rattle.due.proofs.field_at.Symbol as field-def
 use Rattle.due.proofs.field_at.Symbol.{name as #due·field-at}
 use Rattle.due.proofs.field_at.Met as field-thm
-use Rattle.field.specs.Answers.{answerOf}
-use Rattle.field.specs.declared.Field.{Field}
-use Rattle.field.proofs.Field as S
-use Rattle.field.proofs.Field.Laws as S′
+use Rattle.answers.specs.Field.{answerOf}
+use Rattle.answers.specs.declared.field.Field.{Field}
+use Rattle.answers.proofs.field.Field as S
+use Rattle.answers.proofs.field.Field.Laws as S′
 use Rattle.reader.specs.Read.{nextOf, advanced}
 use Rattle.reader.specs.declared.Reader.{Reader}
 use Rattle.reader.proofs.Reader as T
@@ -98,7 +98,8 @@ module _ {M : Type 1} (𝓤 : URA M) (H : Heap 𝓤) (A : Atoms 𝓤) (at-mem : 
   abbrev NextOf : Contract 𝓤
   NextOf = tripleOf 𝓤 H A next-of.signature (next-of.spec 𝓤 H A at-mem run)
 
-module _ {M : Type 1} (𝓤 : URA M) (H : Heap 𝓤) (A : Atoms 𝓤) (W : Given 𝓤 H A) (at-mem : Memory → SProp 𝓤) (run : Routine → Fun 𝓤) (κ κ′ : Lft) (q q′ : Share) (bounds : AllOutlive 2 (pull.signature .outlives) (κ, (κ′, tt))) (b o : ℕ) (γ : GName) (h : Reader) where
+module _ {M : Type 1} (𝓤 : URA M) (H : Heap 𝓤) (A : Atoms 𝓤) (W : Given 𝓤 H A) (at-mem : Memory → SProp 𝓤) (run : Routine → Fun 𝓤) (κ κ′ : Lft) (q q′ : Share)
+    (bounds : AllOutlive 2 (pull.signature .outlives) (κ, (κ′, tt))) (b o : ℕ) (γ : GName) (h : Reader) where
   -- the reference to the reader h, and its machine value
   abbrev x : RefT Reader × Unit {0}
   x = (record { ptr = (b, o); name = γ; now = h }, tt)
@@ -159,7 +160,8 @@ module _ {M : Type 1} (𝓤 : URA M) (H : Heap 𝓤) (A : Atoms 𝓤) (W : Given
   to-next f u = ((tt, tt, tt, (f, (h .at, tt)), (u ∷ [], (vint w64 (h .at) ∷ [], tt))), tt)
 
   asked-next : h .at < 2 ^ 64 → (f : Field) (u : Val) → ent 𝓤 (sem 𝓤 H A (S.the-row .own f (u ∷ []))) (NextOf 𝓤 H A at-mem run .pre (to-next f u))
-  asked-next fits f u = qed W (‵ (S.the-row .own f (u ∷ [])) ∷ []) ∵ nothing ! $ owned ! usize (Is usize) (uint-makes 𝓤 H A W w64) (h .at) _ (refl, fits) $ fjoin ! $ move ! (1 ∷ 0 ∷ []) $ fjoin ! $ nothing ! $ join ! $ frame ! $ done !
+  asked-next fits f u = qed W (‵ (S.the-row .own f (u ∷ [])) ∷ []) ∵ nothing ! $ owned ! usize (Is usize) (uint-makes 𝓤 H A W w64) (h .at) _ (refl, fits)
+      $ fjoin ! $ move ! (1 ∷ 0 ∷ []) $ fjoin ! $ nothing ! $ join ! $ frame ! $ done !
 
   said-next : (f : Field) (k : ℕ) → ent 𝓤 (ensured 𝓤 H A next-of.ended (next-of.clauses 𝓤 H A at-mem run) tt (f, (h .at, tt)) tt k) (fact 𝓤 (k ≡ nextOf (answerOf f) (h .at)))
   said-next f k = exE 𝓤 _ (λ ws. snd∗ 𝓤 (sem 𝓤 H A (lasts next-of.ended tt (f, (h .at, tt)) ws)) (fact 𝓤 (k ≡ nextOf (answerOf f) (h .at))))
@@ -177,7 +179,8 @@ module _ {M : Type 1} (𝓤 : URA M) (H : Heap 𝓤) (A : Atoms 𝓤) (W : Given
       move ! (2 ∷ 3 ∷ []) $ join ! $ frame ! $ feqI ! (List Val) (vptr b o ∷ []) (vptr b o ∷ []) refl $ fjoin3 ! $ nothing ! $ move ! (1 ∷ 0 ∷ []) $ fjoin ! $ frame ! $
       owned ! S.the-row (Is S.the-row) (EL.makes S.the-type S′.the-plain 𝓤 H A) f _ is $ done !
 
-  module _ (C : Calls 𝓤 H) (Λ : Loops 𝓤 H) (fm : FmC 𝓤 H (W .laws) C) (known : Triple 𝓤 (C #due·field-at) (FieldAt 𝓤 H A at-mem run)) (known-next : Triple 𝓤 (C #reader·next-of) (NextOf 𝓤 H A at-mem run)) where
+  module _ (C : Calls 𝓤 H) (Λ : Loops 𝓤 H) (fm : FmC 𝓤 H (W .laws) C) (known : Triple 𝓤 (C #due·field-at) (FieldAt 𝓤 H A at-mem run))
+      (known-next : Triple 𝓤 (C #reader·next-of) (NextOf 𝓤 H A at-mem run)) where
     walk : ent 𝓤 (onEntry 𝓤 H A pull.signature (κ, (κ′, tt)) (q, (q′, tt)) x at) (WpFn 𝓤 H C Λ code.function (vptr b o ∷ []) Post)
     walk =
         qed W ((‵ (flft κ q) ⊛ ‵ (flft κ′ q′) ⊛ ‵ ftrue) ∷ ‵ (owns (MutRef (named 0) κ (B κ′) ∷ []) x at) ∷ []) ∵ enter ! C Λ code.function (vptr b o ∷ []) _ $
@@ -195,21 +198,25 @@ module _ {M : Type 1} (𝓤 : URA M) (H : Heap 𝓤) (A : Atoms 𝓤) (W : Given
         assigns ! (of-opd ! (load ! (from ! (hop ! (look ! 15 refl) (fld ! refl (stop !)))) (look-in ! 0 (sub ! 0 refl (whole !))))) (from ! (stop !)) (init ! 7 refl (tt, wt .1 .0)) $
         -- a reader can be copied: what it owns is kept, and of a copy the image's part goes to the callee
         move ! (1 ∷ []) $ use1 W (‵ (Own h) ⊛ ‵ (Own h)) (LL.copy D (T′.the-copy (α κ′)) 𝓤 H A W .twice h (T′.lowered h ∷ [])) $ split ! $
-        use1 W (given (T′.lowered h ∷ [] ≡ T′.lowered h ∷ []) (‵ (all-own (D .parts) L vh))) (own-open 𝓤 H A W D L vh (T′.lowered h)) $ learn ! (λ _. use1 W (‵ (ownAt (D .parts) L 0 (h .image)) ⊛ ‵ (rest (D .parts) L 0 vh)) (own-out 𝓤 H A W (D .parts) L 0 vh) $ split ! $
+        use1 W (given (T′.lowered h ∷ [] ≡ T′.lowered h ∷ []) (‵ (all-own (D .parts) L vh))) (own-open 𝓤 H A W D L vh (T′.lowered h))
+        $ learn ! (λ _. use1 W (‵ (ownAt (D .parts) L 0 (h .image)) ⊛ ‵ (rest (D .parts) L 0 vh)) (own-out 𝓤 H A W (D .parts) L 0 vh) $ split ! $
         move ! (1 ∷ []) $ drop ! $ nothing ! $ owned ! usize (Is usize) (uint-makes 𝓤 H A W w64) (h .at) _ (refl, wt .1 .1 .0 .fits) $ fjoin ! $ move ! (1 ∷ 0 ∷ []) $ fjoin ! $
         -- [what the image and the position own; what the reader owns; the cell; the open borrow; obs; auth; 'a's token; true; _5; …]
         move ! (6 ∷ 0 ∷ []) $ use2 W (raw (FieldAt 𝓤 H A at-mem run .pre to)) asked $
         -- [what the callee asks; what the reader owns; the cell; the open borrow; obs; auth; true; _5; …; _4; …; _3; …; _2; …; _1; …; room for _0; …]; _3 = field_at(_5, _2)
         calls-at ! fm (FieldAt 𝓤 H A at-mem run) known to (and-then ! (load ! (from ! (stop !)) (look ! 7 refl)) (and-then ! (load ! (from ! (stop !)) (look ! 13 refl)) (no-more !))) (λ u.
-        use1 W (later (some (λ (f : Field). ((‵ (flft κ′ q′) ⊛ ‵ ftrue) ⊛ ‵ (S.the-row .own f (u ∷ []))) ⊛ raw (ensured 𝓤 H A field-at.ended (field-at.clauses 𝓤 H A at-mem run) (κ′, tt) a tt f)))) (id⊢ 𝓤 _) $ await ! tt $ pick ! (λ f.
+        use1 W (later (some (λ (f : Field). ((‵ (flft κ′ q′) ⊛ ‵ ftrue) ⊛ ‵ (S.the-row .own f (u ∷ [])))
+        ⊛ raw (ensured 𝓤 H A field-at.ended (field-at.clauses 𝓤 H A at-mem run) (κ′, tt) a tt f)))) (id⊢ 𝓤 _) $ await ! tt $ pick ! (λ f.
         split ! $ move ! (1 ∷ []) $ use1 W (raw (fact 𝓤 (answerOf f ≡ found))) (said f) $ heard ! (answerOf f ≡ found) (λ e. split ! $ move ! (1 ∷ []) $
         -- [the reply; 'a's token; what the reader owns; the cell; the open borrow; obs; auth; true; _5; …; _4; …; _3; …; _2; …; _1; …; room for _0; …]
         peeks ! S.the-row (Is S.the-row) (shows 𝓤 H A S.the-row) f (u ∷ []) (λ is.
         land ! (from ! (stop !)) (init ! 12 refl (EL.lawful S.the-type S′.the-laws 𝓤 H A W tt .typed f _ is .0)) $
         use1 W (raw (NextOf 𝓤 H A at-mem run .pre (to-next f u))) (asked-next (wt .1 .1 .0 .fits) f u) $
         -- the same with what `next_of` asks in front; _4 = next_of(_3, _2)
-        calls-at ! fm (NextOf 𝓤 H A at-mem run) known-next (to-next f u) (and-then ! (load ! (from ! (stop !)) (look ! 12 refl)) (and-then ! (load ! (from ! (stop !)) (look ! 14 refl)) (no-more !))) (λ u′.
-        use1 W (later (some (λ (k : ℕ). (‵ ftrue ⊛ ‵ (usize .own k (u′ ∷ []))) ⊛ raw (ensured 𝓤 H A next-of.ended (next-of.clauses 𝓤 H A at-mem run) tt (f, (h .at, tt)) tt k)))) (id⊢ 𝓤 _) $ await ! tt $ pick ! (λ k.
+        calls-at ! fm (NextOf 𝓤 H A at-mem run) known-next (to-next f u)
+        (and-then ! (load ! (from ! (stop !)) (look ! 12 refl)) (and-then ! (load ! (from ! (stop !)) (look ! 14 refl)) (no-more !))) (λ u′.
+        use1 W (later (some (λ (k : ℕ). (‵ ftrue ⊛ ‵ (usize .own k (u′ ∷ [])))
+        ⊛ raw (ensured 𝓤 H A next-of.ended (next-of.clauses 𝓤 H A at-mem run) tt (f, (h .at, tt)) tt k)))) (id⊢ 𝓤 _) $ await ! tt $ pick ! (λ k.
         split ! $ move ! (1 ∷ []) $ use1 W (raw (fact 𝓤 (k ≡ nextOf (answerOf f) (h .at)))) (said-next f k) $ heard ! (k ≡ nextOf (answerOf f) (h .at)) (λ e′. split ! $ drop ! $
         -- [the number; 'a's token; what the reader owns; the cell; the open borrow; obs; auth; true; _5; …; _4; …; _3; …; _2; …; _1; …; room for _0; …]
         peeks ! usize (Is usize) (shows 𝓤 H A usize) k (u′ ∷ []) (λ isk.
@@ -219,11 +226,13 @@ module _ {M : Type 1} (𝓤 : URA M) (H : Heap 𝓤) (A : Atoms 𝓤) (W : Given
         assigns ! (of-opd ! (load ! (from ! (stop !)) (look ! 9 refl))) (from ! (hop ! (look ! 15 refl) (fld ! refl (stop !)))) (store-in ! 2 (sub ! 1 refl (whole !)) (tt, record { fits = isk .1 })) $
         assigns ! (of-opd ! (load ! (from ! (stop !)) (look ! 11 refl))) (from ! (stop !)) (init ! 17 refl (EL.lawful S.the-type S′.the-laws 𝓤 H A W tt .typed f _ is .0)) $
         -- the borrow is closed at the reader moved on
-        move ! (1 ∷ []) $ use1 W (‵ (Own (moved k))) (again k (isk .1)) $ move ! (2 ∷ []) $ use1 W (‵ (cellAt fullShare (B κ′ .mir) (T′.lowered (moved k) ∷ []) b o)) (W .laws .at-raw fullShare (T′.mir erased) b o (T′.lowered (moved k))) $
+        move ! (1 ∷ []) $ use1 W (‵ (Own (moved k))) (again k (isk .1)) $ move ! (2 ∷ [])
+        $ use1 W (‵ (cellAt fullShare (B κ′ .mir) (T′.lowered (moved k) ∷ []) b o)) (W .laws .at-raw fullShare (T′.mir erased) b o (T′.lowered (moved k))) $
         move ! (0 ∷ 1 ∷ 3 ∷ 4 ∷ 5 ∷ []) $ closes ! tt (B κ′) (moved k) (T′.lowered (moved k) ∷ []) b o $
         -- [obs; the borrow; its token; 'a's token; true; _5; …; _4; …; _3; …; _2; …; _1; …; _0; …]
         returns ! (look ! 15 refl) $ forget ! 5 refl $ forget ! 7 refl $ forget ! 9 refl $ forget ! 11 refl $ forget ! 13 refl $ forget ! 15 refl $
-        move ! (15 ∷ 16 ∷ []) $ free1 ! $ move ! (13 ∷ 14 ∷ []) $ free1 ! $ move ! (11 ∷ 12 ∷ []) $ free1 ! $ move ! (9 ∷ 10 ∷ []) $ free1 ! $ move ! (7 ∷ 8 ∷ []) $ free1 ! $ move ! (5 ∷ 6 ∷ []) $ free1 ! $ free0 ! $
+        move ! (15 ∷ 16 ∷ []) $ free1 ! $ move ! (13 ∷ 14 ∷ []) $ free1 ! $ move ! (11 ∷ 12 ∷ []) $ free1 ! $ move ! (9 ∷ 10 ∷ [])
+        $ free1 ! $ move ! (7 ∷ 8 ∷ []) $ free1 ! $ move ! (5 ∷ 6 ∷ []) $ free1 ! $ free0 ! $
         keep ! (0 ∷ 1 ∷ 2 ∷ 3 ∷ []) $ by ! (exits f u k e e′ is))))))))))))))))))
 
 module _ {M : Type 1} (𝓤 : URA M) (H : Heap 𝓤) (A : Atoms 𝓤) (W : Given 𝓤 H A) (mem : Memory → SProp 𝓤) (run : Routine → Fun 𝓤) where
@@ -231,7 +240,8 @@ module _ {M : Type 1} (𝓤 : URA M) (H : Heap 𝓤) (A : Atoms 𝓤) (W : Given
       → Walks 𝓤 H A pull.ended stayed (WpFn 𝓤 H C Λ code.function) (pull.clauses 𝓤 H A mem run)
   pull-walks C Λ fm known known-next =
       walked 𝓤 H A pull.ended stayed (pull.clauses 𝓤 H A mem run) (WpFn 𝓤 H C Λ code.function) (λ κs. (ptr-vals, tt)) (λ κs. (mut-tells (named 0) (κs .0) (B (κs .1 .0)), tt))
-      (λ κs qs bounds a _ are. via 𝓤 _ (fst∗ 𝓤 _ (emp 𝓤)) (walk 𝓤 H A W mem run (κs .0) (κs .1 .0) (qs .0) (qs .1 .0) bounds (a .0 .ptr .0) (a .0 .ptr .1) (a .0 .name) (a .0 .now) C Λ fm known known-next))
+      (λ κs qs bounds a _ are. via 𝓤 _ (fst∗ 𝓤 _ (emp 𝓤))
+      (walk 𝓤 H A W mem run (κs .0) (κs .1 .0) (qs .0) (qs .1 .0) bounds (a .0 .ptr .0) (a .0 .ptr .1) (a .0 .name) (a .0 .now) C Λ fm known known-next))
 
 pull-meets : {M : Type 1} (𝓤 : URA M) (H : Heap 𝓤) (A : Atoms 𝓤) (W : Given 𝓤 H A) (mem : Memory → SProp 𝓤) (run : Routine → Fun 𝓤) (𝓣 : Tables 𝓤 H)
     → Triple 𝓤 (𝓣 .C #due·field-at) (FieldAt 𝓤 H A mem run) → Triple 𝓤 (𝓣 .C #reader·next-of) (NextOf 𝓤 H A mem run)

@@ -58,8 +58,12 @@ returns c =
     let s = start o in
     let ws = s .args .t .now in
     let e = eight s in
-    insert-words ws (s .pre .0 .header) (view (getD ws 0 0) (s .args .m)) (o .before .offset .result) (o .offset2 .result) (s .args .k) (put .put-in .last .0) (simp length-take (omega arith)) (gap-of ws (s .args .m .id) (s .args .k) (s .pre .1 .1 .0) (s .pre .1 .1 .1)) (within s) (o .before .offset .ensures .0) (o .offset2 .ensures .0) (room o .1) (put .put-in .ensures)
+    insert-words ws (s .pre .0 .header) (view (getD ws 0 0) (s .args .m)) (o .before .offset .result) (o .offset2 .result) (s .args .k) (put .put-in .last .0)
+    (simp length-take (omega arith)) (gap-of ws (s .args .m .id) (s .args .k) (s .pre .1 .1 .0) (s .pre .1 .1 .1)) (within s)
+    (o .before .offset .ensures .0) (o .offset2 .ensures .0) (room o .1) (put .put-in .ensures)
 
 pub insert-at-spec : {M : Type 1} → statement M
 insert-at-spec =
-    tie.close (tie.spec (λ c. search needs) (λ c. search needs) (λ c. search needs) (λ c. search needs) offset-requires (λ c κs. search needs) (λ c. search needs) sub-put-in part-put-in-start (λ c. search needs) sub-put-in-2 put-in-requires (λ c. search needs) (λ c. search needs) (λ c. search needs) (λ c. search needs) returns)
+    tie.close (tie.spec (λ c. search needs) (λ c. search needs) (λ c. search needs) (λ c. search needs) offset-requires (λ c κs. search needs)
+    (λ c. search needs) sub-put-in part-put-in-start (λ c. search needs) sub-put-in-2 put-in-requires (λ c. search needs) (λ c. search needs)
+    (λ c. search needs) (λ c. search needs) returns)

@@ -41,8 +41,10 @@ returns c =
     let s = start o in
     let ws = s .args .t .now in
     let e = eight s in
-    replace-words ws (s .pre .0 .header) (view (getD ws 0 0) (s .args .m)) (o .offset .result) (s .args .k) (w .write-member .last .0) (simp length-take (omega arith)) (stands-at (s .pre .0) (s .pre .1)) (o .offset .ensures .0) (s .pre .0 .fits) (w .write-member .ensures)
+    replace-words ws (s .pre .0 .header) (view (getD ws 0 0) (s .args .m)) (o .offset .result) (s .args .k) (w .write-member .last .0)
+    (simp length-take (omega arith)) (stands-at (s .pre .0) (s .pre .1)) (o .offset .ensures .0) (s .pre .0 .fits) (w .write-member .ensures)
 
 pub replace-at-spec : {M : Type 1} → statement M
 replace-at-spec =
-    tie.close (tie.spec (λ c. search needs) (λ c. search needs) (λ c κs. search needs) (λ c. search needs) sub-write-member part-write-member-start (λ c. search needs) write-member-requires (λ c. search needs) returns)
+    tie.close (tie.spec (λ c. search needs) (λ c. search needs) (λ c κs. search needs) (λ c. search needs) sub-write-member part-write-member-start
+    (λ c. search needs) write-member-requires (λ c. search needs) returns)

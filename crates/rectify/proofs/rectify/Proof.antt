@@ -7,7 +7,7 @@ use Rattle.model.specs.Ring.{named}
 use Rattle.model.specs.Answer.{accepted}
 use Rattle.model.specs.Steps.{rectifyReply, rectified}
 use Rattle.model.specs.Calls.{written, rectifyAnswer, rectifyWords}
-use Rattle.refusal.proofs.Laws.{Called, called, refused, refused-call}
+use Rattle.standing.proofs.Laws.{Called, called, refused, refused-call}
 use Rattle.rectify.proofs.rectify.Statement.{statement}
 use Rattle.rectify.proofs.rectify.Tie as tie
 
@@ -28,8 +28,10 @@ returns c =
     let g = granted k in
     let a = start (k .before .before) .args in
     let ws = a .t .now in
-    let e = g .stands .has-id in
-    (rw (g .granted) (r .rectify-at .ensures .0 ∙ ap (λ (x : ℕ). accepted (rectifyReply (membersIn ws) (a .q) (named (membersIn ws) x))) e), rw (g .granted) (r .rectify-at .ensures .1 ∙ ap (λ (x : ℕ). written (rectified x (a .q) (tableOf ws)) ws) e))
+    let e = g .stands .has-id in (
+      rw (g .granted) (r .rectify-at .ensures .0 ∙ ap (λ (x : ℕ). accepted (rectifyReply (membersIn ws) (a .q) (named (membersIn ws) x))) e),
+      rw (g .granted) (r .rectify-at .ensures .1 ∙ ap (λ (x : ℕ). written (rectified x (a .q) (tableOf ws)) ws) e),
+    )
 
 returns-2 : tie.Need-returns-2
 unfolding rectifyAnswer rectifyWords

@@ -13,7 +13,7 @@ use Rattle.model.specs.Steps.{renews, rectify, rectifyIn, rectifyReply, rectifi
 use Rattle.model.specs.Calls.{written}
 use Rattle.laws.specs.Rectify.{rectify-same, rectify-none}
 use Rattle.member.specs.View.{view}
-use Rattle.table.specs.Search.{Stands}
+use Rattle.table.specs.Located.{Stands}
 use Rattle.table.proofs.Members.{id-of}
 use Rattle.table.proofs.Place.{own-place, stands-at, stands-named, stands-member, replaced-same, same-words}
 use Rattle.rectify_at.proofs.rectify_at.Statement.{statement}
@@ -31,13 +31,16 @@ stands s = own-place (s .args .t .now) (s .args .k) (s .pre .1)
 
 -- so what is said of the record says it of the member
 by-name : (c : tie.After-renews-at) {ys : List ℕ} → let a = start c .args in let ws = a .t .now in let n = getD (ids (membersIn ws)) (a .k) 0 in
-    (answerIs : Answer) → answerIs ≡ accepted (rectifyReply (membersIn ws) (a .q) (here c)) → ys ≡ written (withMembers (replaced (rectifyIn (membersIn ws) (a .q) (here c)) (membersIn ws)) (tableOf ws)) ws →
+    (answerIs : Answer) → answerIs ≡ accepted (rectifyReply (membersIn ws) (a .q) (here c))
+    → ys ≡ written (withMembers (replaced (rectifyIn (membersIn ws) (a .q) (here c)) (membersIn ws)) (tableOf ws)) ws →
     (answerIs ≡ accepted (rectifyReply (membersIn ws) (a .q) (named (membersIn ws) n))) × (ys ≡ written (rectified n (a .q) (tableOf ws)) ws)
 by-name c x p q =
     let s = start c in
     let ws = s .args .t .now in
-    let m = stands-named (s .pre .0) (stands s) in
-    (p ∙ ap (λ (v : Member). accepted (rectifyReply (membersIn ws) (s .args .q) v)) m, q ∙ ap (λ (v : Member). written (withMembers (replaced (rectifyIn (membersIn ws) (s .args .q) v) (membersIn ws)) (tableOf ws)) ws) m)
+    let m = stands-named (s .pre .0) (stands s) in (
+      p ∙ ap (λ (v : Member). accepted (rectifyReply (membersIn ws) (s .args .q) v)) m,
+      q ∙ ap (λ (v : Member). written (withMembers (replaced (rectifyIn (membersIn ws) (s .args .q) v) (membersIn ws)) (tableOf ws)) ws) m,
+    )
 
 -- whether its predecessor is a member
 alive : (c : tie.After-renews-at) → c .before .before .stands-at .result ≡ live (membersIn (start c .args .t .now)) (here c .predecessor)
@@ -53,13 +56,15 @@ told : (c : tie.After-renews-at) → let a = start c .args in c .renews-at .resu
 told c = c .renews-at .ensures ∙ ap (λ (b : Bool). renews b (start c .args .q) (here c)) (alive c)
 
 -- the rectified record, in the model's terms
-noticed : (c : tie.After-rectify) → let r = c .before .before .before .before in let a = start r .args in view (getD (a .t .now) 0 0) (c .rectify .result) ≡ rectifyIn (membersIn (a .t .now)) (a .q) (here r)
+noticed : (c : tie.After-rectify) → let r = c .before .before .before .before in let a =
+    start r .args in view (getD (a .t .now) 0 0) (c .rectify .result) ≡ rectifyIn (membersIn (a .t .now)) (a .q) (here r)
 noticed c =
     let m = c .before in
     let r = m .before .before .before in
     let a = start r .args in
     let w = getD (a .t .now) 0 0 in
-    c .rectify .ensures w ∙ ap (λ (b : Bool). rectify b (a .q) (view w (m .member-at .result))) (alive r) ∙ ap (rectify (live (membersIn (a .t .now)) (here r .predecessor)) (a .q)) (m .member-at .ensures)
+    c .rectify .ensures w ∙ ap (λ (b : Bool). rectify b (a .q) (view w (m .member-at .result))) (alive r)
+    ∙ ap (rectify (live (membersIn (a .t .now)) (here r .predecessor)) (a .q)) (m .member-at .ensures)
 
 replace-at-requires : tie.Need-replace-at-requires
 replace-at-requires c κs =
@@ -76,7 +81,8 @@ returns c =
     let t = o .before .before .before in
     let r = t .before in
     let ws = start r .args .t .now in
-    by-name r _ (ap (λ (b : Bool). accepted (bit b ∷ [])) (sym (t .if1 .taken) ∙ told r)) (p .replace-at .ensures ∙ ap (λ (m : Member). written (withMembers (replaced m (membersIn ws)) (tableOf ws)) ws) (noticed o))
+    by-name r _ (ap (λ (b : Bool). accepted (bit b ∷ [])) (sym (t .if1 .taken) ∙ told r))
+    (p .replace-at .ensures ∙ ap (λ (m : Member). written (withMembers (replaced m (membersIn ws)) (tableOf ws)) ws) (noticed o))
 
 returns-2 : tie.Need-returns-2
 returns-2 c =
@@ -86,8 +92,11 @@ returns-2 c =
     let ms = membersIn ws in
     let none = sym (told r) ∙ c .if1 .left in
     let at = stands-at (s .pre .0) (stands s) in
-    by-name r _ (ap (λ (b : Bool). accepted (bit b ∷ [])) (sym (c .if1 .left) ∙ told r)) (same-words ws (s .pre .0) ∙ ap (λ (l : List Member). written (withMembers l (tableOf ws)) ws) (sym (replaced-same at)) ∙ ap (λ (v : Member). written (withMembers (replaced v ms) (tableOf ws)) ws) (rectify-none ms (s .args .q) (here r) none))
+    by-name r _ (ap (λ (b : Bool). accepted (bit b ∷ [])) (sym (c .if1 .left) ∙ told r))
+    (same-words ws (s .pre .0) ∙ ap (λ (l : List Member). written (withMembers l (tableOf ws)) ws) (sym (replaced-same at))
+    ∙ ap (λ (v : Member). written (withMembers (replaced v ms) (tableOf ws)) ws) (rectify-none ms (s .args .q) (here r) none))
 
 pub rectify-at-spec : {M : Type 1} → statement M
 rectify-at-spec =
-    tie.close (tie.spec (λ c κs. search needs) (λ c κs. search needs) (λ c κs. search needs) (λ c κs. search needs) (λ c κs. search needs) (λ c κs. search needs) replace-at-requires (λ c. search needs) returns (λ c. search needs) returns-2)
+    tie.close (tie.spec (λ c κs. search needs) (λ c κs. search needs) (λ c κs. search needs) (λ c κs. search needs) (λ c κs. search needs)
+    (λ c κs. search needs) replace-at-requires (λ c. search needs) returns (λ c. search needs) returns-2)

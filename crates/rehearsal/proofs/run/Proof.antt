@@ -57,7 +57,9 @@ loop-again c =
     let u = l .before .before .before .before in
     let k = u .before .before .loop in
     let a = u .before .before .before .before .before .before .args in
-    goes-on (a .s .now) (a .t .now) (a .out .now) (k .t) (k .out) (k .p .now) (k .n) (k .at) (u .until .result) (d .result) (k .inv) (u .before .loop-test .taken) (u .until .ensures .1) (d .ensures) (l .run-line .result) (l .run-line .last .1 .1 .0) (l .run-line .last .1 .1 .1 .0) (l .run-line .ensures .0) (l .run-line .ensures .1) (l .run-line .ensures .2) (l .run-line .kept .1 .1 .1 .0) (l .run-line .kept .1 .1 .0)
+    goes-on (a .s .now) (a .t .now) (a .out .now) (k .t) (k .out) (k .p .now) (k .n) (k .at) (u .until .result) (d .result) (k .inv)
+    (u .before .loop-test .taken) (u .until .ensures .1) (d .ensures) (l .run-line .result) (l .run-line .last .1 .1 .0) (l .run-line .last .1 .1 .1 .0)
+    (l .run-line .ensures .0) (l .run-line .ensures .1) (l .run-line .ensures .2) (l .run-line .kept .1 .1 .1 .0) (l .run-line .kept .1 .1 .0)
 
 same-length : tie.Need-same-length Inv-loop μ-loop
 same-length c = c .before .loop .inv .table
@@ -73,4 +75,5 @@ returns c =
 
 pub run-spec : {M : Type 1} → statement M
 run-spec =
-    tie.close (tie.spec Inv-loop μ-loop loop-holds until-requires add-n slice-aggregate-run-line run-line-requires past-requires sub-p part-p-start part-p-end loop-less loop-again same-length same-length-2 returns)
+    tie.close (tie.spec Inv-loop μ-loop loop-holds until-requires add-n slice-aggregate-run-line run-line-requires past-requires sub-p part-p-start part-p-end
+    loop-less loop-again same-length same-length-2 returns)

@@ -16,7 +16,8 @@ returns-2 c =
     let i = r .before .before .before .before in
     let n = i .before .counted in
     let a = i .before .before .before .before .before .args in
-    whole (a .input .now) (a .t .now) (a .out .now) (n .result) (n .ensures .2) (n .ensures .3) (r .run .last .1 .0) (r .run .last .1 .1 .0) (r .run .result) (i .if1 .left) (r .run .ensures .0) (r .run .ensures .1) (r .run .ensures .2) (r .run .kept .1 .1 .0)
+    whole (a .input .now) (a .t .now) (a .out .now) (n .result) (n .ensures .2) (n .ensures .3) (r .run .last .1 .0) (r .run .last .1 .1 .0) (r .run .result)
+    (i .if1 .left) (r .run .ensures .0) (r .run .ensures .1) (r .run .ensures .2) (r .run .kept .1 .1 .0)
 
 pub session-spec : {M : Type 1} → statement M
 session-spec =

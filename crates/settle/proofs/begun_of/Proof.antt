@@ -4,7 +4,7 @@ use mathlib.Core.Bool.{true}
 use borrow.Author.Needs.{needs}
 use Rattle.model.specs.Table.{wellFormed}
 use Rattle.laws.specs.Accepted.{settle-accepts}
-use Rattle.table.proofs.Formed.{formed}
+use Rattle.table.proofs.WellFormed.{formed-words}
 use Rattle.settle.proofs.Laws.{no-table, not-sound}
 use Rattle.settle.proofs.begun_of.Statement.{statement}
 use Rattle.settle.proofs.begun_of.Tie as tie
@@ -13,13 +13,13 @@ good : (c : tie.Then1) → wellFormed (c .before .before .before .args .t .now) 
 good c = sym (c .before .well-formed .ensures) ∙ c .if1 .taken
 
 fill-best-requires : tie.Need-fill-best-requires
-fill-best-requires c κs = (formed _ (good (c .before)), search needs)
+fill-best-requires c κs = (formed-words _ (good (c .before)), search needs)
 
 count-principals-requires : tie.Need-count-principals-requires
-count-principals-requires c κs = formed _ (good (c .before .before))
+count-principals-requires c κs = formed-words _ (good (c .before .before))
 
 is-sound-requires : tie.Need-is-sound-requires
-is-sound-requires c κs = let f = c .before .before in (formed _ (good (f .before .before)), (f .fill-best .ensures .0, c .before .count-principals .ensures .0))
+is-sound-requires c κs = let f = c .before .before in (formed-words _ (good (f .before .before)), (f .fill-best .ensures .0, c .before .count-principals .ensures .0))
 
 returns : tie.Need-returns
 returns c =

@@ -49,4 +49,5 @@ returns-2 c =
 
 pub rounds-of-spec : {M : Type 1} → statement M
 rounds-of-spec =
-    tie.close (tie.spec Inv-loop μ-loop (λ c κs. search needs) loop-holds (λ c. search needs) returns round-of-requires (λ c. search needs) (λ c. search needs) loop-again (λ c. search needs) returns-2)
+    tie.close (tie.spec Inv-loop μ-loop (λ c κs. search needs) loop-holds (λ c. search needs) returns round-of-requires (λ c. search needs) (λ c. search needs)
+    loop-again (λ c. search needs) returns-2)

@@ -7,7 +7,7 @@ use Rattle.model.specs.Ring.{named}
 use Rattle.model.specs.Answer.{accepted}
 use Rattle.model.specs.Steps.{stabilizeReply, stabilized}
 use Rattle.model.specs.Calls.{written, stabilizeAnswer, stabilizeWords}
-use Rattle.refusal.proofs.Laws.{Called, called, refused, refused-call}
+use Rattle.standing.proofs.Laws.{Called, called, refused, refused-call}
 use Rattle.stabilize.proofs.stabilize.Statement.{statement}
 use Rattle.stabilize.proofs.stabilize.Tie as tie
 
@@ -27,8 +27,10 @@ returns c =
     let k = r .before .before .before in
     let g = granted k in
     let ws = start (k .before .before) .args .t .now in
-    let e = g .stands .has-id in
-    (rw (g .granted) (r .stabilize-at .ensures .0 ∙ ap (λ (x : ℕ). accepted (stabilizeReply (membersIn ws) (named (membersIn ws) x))) e), rw (g .granted) (r .stabilize-at .ensures .1 ∙ ap (λ (x : ℕ). written (stabilized x (tableOf ws)) ws) e))
+    let e = g .stands .has-id in (
+      rw (g .granted) (r .stabilize-at .ensures .0 ∙ ap (λ (x : ℕ). accepted (stabilizeReply (membersIn ws) (named (membersIn ws) x))) e),
+      rw (g .granted) (r .stabilize-at .ensures .1 ∙ ap (λ (x : ℕ). written (stabilized x (tableOf ws)) ws) e),
+    )
 
 returns-2 : tie.Need-returns-2
 unfolding stabilizeAnswer stabilizeWords

@@ -12,7 +12,7 @@ use Rattle.model.specs.Ring.{isPending}
 use Rattle.model.specs.Answer.{accepted}
 use Rattle.model.specs.Steps.{clearPending}
 use Rattle.member.specs.View.{view}
-use Rattle.table.specs.Search.{Stands}
+use Rattle.table.specs.Located.{Stands}
 use Rattle.table.proofs.Place.{missing, here, stands-live, stands-named}
 use Rattle.stabilize_at.proofs.Laws.{candidate-live, candidate-dead, done-candidate, done-successor}
 use Rattle.stabilize_at.proofs.from_predecessor.Statement.{statement}
@@ -25,7 +25,7 @@ stands : (k : tie.After-k) → let a = k .before .before .before .before .args i
 stands k =
     let f = k .before .before in
     let s = f .before .before in
-    here (s .args .t .now) (s .args .t2 .candidate) _ (s .pre .0) (sym (k .k .given .1) ∙ f .find .ensures)
+    here (s .args .t .now) (s .args .t2 .candidate) _ (s .pre .0) (sym (k .k .given .1) ∙ f .locate .ensures)
 
 returns : tie.Need-returns
 returns c =
@@ -35,7 +35,7 @@ returns c =
     let ws = s .args .t .now in
     let m = s .args .t2 in
     let r = getD ws 0 0 in
-    let dead = missing ws (m .candidate) _ (sym (e .enum-told .given .1) ∙ f .find .ensures) .0 in
+    let dead = missing ws (m .candidate) _ (sym (e .enum-told .given .1) ∙ f .locate .ensures) .0 in
     let head = sym (getD-take r (m .successors) 0 0 (s .pre .0 .r-low)) in
     record {
       leaves = c .clear-pending .ensures r ∙ candidate-dead (spaceOf (tableOf ws)) (membersIn ws) (view r m) (waiting s) dead;
@@ -56,10 +56,13 @@ returns-2 c =
     let r = getD ws 0 0 in
     let live = stands-live (s .pre .0) (stands k) in
     record {
-      leaves = c .clear-pending2 .ensures r ∙ ap clearPending (a .adopt .ensures r (s .pre .0 .r-low) (s .pre .0 .r-high)) ∙ candidate-live (spaceOf (tableOf ws)) (membersIn ws) (view r m) (waiting s) (view r (o .member-at .result)) (o .member-at .ensures ∙ stands-named (s .pre .0) (stands k)) live;
+      leaves = c .clear-pending2 .ensures r ∙ ap clearPending (a .adopt .ensures r (s .pre .0 .r-low) (s .pre .0 .r-high))
+          ∙ candidate-live (spaceOf (tableOf ws)) (membersIn ws) (view r m) (waiting s) (view r (o .member-at .result))
+          (o .member-at .ensures ∙ stands-named (s .pre .0) (stands k)) live;
       replies = ap accepted (done-candidate (spaceOf (tableOf ws)) (membersIn ws) (view r m) (waiting s) live);
     }
 
 pub from-predecessor-spec : {M : Type 1} → statement M
 from-predecessor-spec =
-    tie.close (tie.spec (λ c κs. search needs) (λ c. search needs) (λ c. search needs) (λ c. search needs) (λ c κs. search needs) returns member-at-requires (λ c κs. search needs) (λ c κs. search needs) returns-2)
+    tie.close (tie.spec (λ c κs. search needs) (λ c. search needs) (λ c. search needs) (λ c. search needs) (λ c κs. search needs) returns member-at-requires
+    (λ c κs. search needs) (λ c κs. search needs) returns-2)

@@ -41,7 +41,8 @@ returns c =
     let w = view r (o .member-at .result) in
     let t = sym (b .between .ensures) ∙ c .before .if1 .taken in
     record {
-      leaves = c .await-candidate .ensures r ∙ ap (awaitCandidate (w .predecessor)) (a .adopt .ensures r (s .pre .0 .r-low) (s .pre .0 .r-high)) ∙ better (spaceOf (tableOf (s .args .t .now))) ms v w _ (head s) (found o) (idle s) (alive s) t;
+      leaves = c .await-candidate .ensures r ∙ ap (awaitCandidate (w .predecessor)) (a .adopt .ensures r (s .pre .0 .r-low) (s .pre .0 .r-high))
+          ∙ better (spaceOf (tableOf (s .args .t .now))) ms v w _ (head s) (found o) (idle s) (alive s) t;
       replies = ap accepted (looks (spaceOf (tableOf (s .args .t .now))) ms v w _ (head s) (found o) (idle s) (alive s) t);
     }
 

@@ -12,7 +12,7 @@ use Rattle.model.specs.Calls.{written}
 use Rattle.member.specs.View.{view}
 use Rattle.laws.specs.Lists.{found, live-in}
 use Rattle.laws.specs.Stabilize.{same-id}
-use Rattle.table.specs.Search.{Stands}
+use Rattle.table.specs.Located.{Stands}
 use Rattle.table.proofs.Place.{own-place, stands-named, stands-live}
 use Rattle.stabilize_at.proofs.stabilize_at.Statement.{statement}
 use Rattle.stabilize_at.proofs.stabilize_at.Tie as tie
@@ -44,11 +44,18 @@ replace-at-requires : tie.Need-replace-at-requires
 replace-at-requires c κs =
     let o = c .before .before in
     let s = start o in
-    let ms = membersIn (s .args .t .now) in
-    (s .pre .0, record { within = s .pre .1; has-id = sym (ap (λ (m : Member). m .id) (stepped o) ∙ same-id ms (here s) (spaceIn s) ∙ found ms (live-in ms (who s) (stands-live (s .pre .0) (stands s))) .1) })
+    let ms = membersIn (s .args .t .now) in (
+      s .pre .0,
+      record {
+        within = s .pre .1;
+        has-id = sym
+            (ap (λ (m : Member). m .id) (stepped o) ∙ same-id ms (here s) (spaceIn s) ∙ found ms (live-in ms (who s) (stands-live (s .pre .0) (stands s))) .1);
+      },
+    )
 
 -- the words that the record's replacement leaves
-left : (c : tie.After-replace-at) → let s = start (c .before .before .before) in let ws = s .args .t .now in c .replace-at .last .0 ≡ written (withMembers (replaced (stabilize (spaceIn s) (membersIn ws) (here s)) (membersIn ws)) (tableOf ws)) ws
+left : (c : tie.After-replace-at) → let s = start (c .before .before .before) in let ws =
+    s .args .t .now in c .replace-at .last .0 ≡ written (withMembers (replaced (stabilize (spaceIn s) (membersIn ws) (here s)) (membersIn ws)) (tableOf ws)) ws
 left c =
     let o = c .before .before .before in
     let ws = start o .args .t .now in

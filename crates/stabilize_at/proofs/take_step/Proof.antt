@@ -26,7 +26,7 @@ returns-2 c =
     let m = s .args .t2 in
     let r = getD ws 0 0 in
     let idle = ne-eqb _ _ (i .if1 .left) in
-    let dead = ap (live (membersIn ws)) (getD-take r (m .successors) 0 0 (s .pre .r-low)) ∙ missing ws (getD (m .successors) 0 0) _ (sym (e .enum-told .given .1) ∙ f .find .ensures) .0 in
+    let dead = ap (live (membersIn ws)) (getD-take r (m .successors) 0 0 (s .pre .r-low)) ∙ missing ws (getD (m .successors) 0 0) _ (sym (e .enum-told .given .1) ∙ f .locate .ensures) .0 in
     record {
       leaves = c .drop-head .ensures ∙ ap (λ (w : ℕ). dropHead w (view r m)) (sym (space-words (tableOf ws))) ∙ step-dead (membersIn ws) (view r m) (spaceOf (tableOf ws)) idle dead;
       replies = ap accepted (again (membersIn ws) (view r m) idle dead);
@@ -38,8 +38,9 @@ from-successor-requires c κs =
     let f = k .before .before in
     let i = f .before .before in
     let s = i .before .before in
-    (search needs, (i .if1 .left, here (s .args .t .now) (getD (s .args .t2 .successors) 0 0) _ (s .pre) (sym (k .k .given .1) ∙ f .find .ensures)))
+    (search needs, (i .if1 .left, here (s .args .t .now) (getD (s .args .t2 .successors) 0 0) _ (s .pre) (sym (k .k .given .1) ∙ f .locate .ensures)))
 
 pub take-step-spec : {M : Type 1} → statement M
 take-step-spec =
-    tie.close (tie.spec (λ c κs. search needs) (λ c. search needs) (λ c. search needs) (λ c κs. search needs) (λ c. search needs) (λ c. search needs) (λ c. search needs) (λ c. search needs) (λ c κs. search needs) returns-2 from-successor-requires (λ c. search needs))
+    tie.close (tie.spec (λ c κs. search needs) (λ c. search needs) (λ c. search needs) (λ c κs. search needs) (λ c. search needs) (λ c. search needs)
+    (λ c. search needs) (λ c. search needs) (λ c κs. search needs) returns-2 from-successor-requires (λ c. search needs))

@@ -65,4 +65,6 @@ returns c = (omega arith, omega arith)
 
 pub rank-spec : {M : Type 1} → statement M
 rank-spec =
-    tie.close (tie.spec Inv-loop μ-loop (λ c. search needs) (λ c. search needs) (λ c. search needs) (λ c. search needs) loop-holds (λ c. search needs) (λ c κs. search needs) (λ c. search needs) shared-slice-read-if1 (λ c. search needs) (λ c. search needs) loop-again (λ c. search needs) loop-again-2 returns)
+    tie.close (tie.spec Inv-loop μ-loop (λ c. search needs) (λ c. search needs) (λ c. search needs) (λ c. search needs) loop-holds (λ c. search needs)
+    (λ c κs. search needs) (λ c. search needs) shared-slice-read-if1 (λ c. search needs) (λ c. search needs) loop-again (λ c. search needs) loop-again-2
+    returns)

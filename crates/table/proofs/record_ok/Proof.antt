@@ -1,7 +1,7 @@
 -- `record_ok` meets its contract. Assumes nothing.
 use native.Mathlib.Omega.{arith}
 use borrow.Author.Tests.{lt-leb, le-leb}
-use Rattle.table.proofs.Formed.{both-zero, not-both-zero}
+use Rattle.table.proofs.WellFormed.{both-zero, not-both-zero}
 use borrow.Author.Needs.{needs}
 use Rattle.table.proofs.record_ok.Statement.{statement}
 use Rattle.table.proofs.record_ok.Tie as tie

@@ -6,7 +6,7 @@ use borrow.Author.Tests.{lt-leb}
 use lib.ListN.{length-drop}
 use Rattle.model.specs.Table.{formed, wellFormed}
 use Rattle.laws.specs.Words.{members-length}
-use Rattle.table.proofs.Formed.{tests}
+use Rattle.table.proofs.WellFormed.{tests}
 use borrow.Author.Needs.{needs}
 use Rattle.table.proofs.well_formed.Statement.{statement}
 use Rattle.table.proofs.well_formed.Tie as tie
@@ -55,8 +55,11 @@ returns-6 c =
     let k = e2 .before in
     let e1 = k .before .before in
     let t = e1 .before .before .args .t .now in
-    c .records-ok .ensures ∙ rw (p .records-of .ensures) (tests t (λ i. omega (arith, k .shared-slice-known3 .given i)) (e1 .if1 .left) (e2 .if2 .left) (e3 .if3 .left) (e4 .if4 .left) (rw (o .offset .ensures .0) at (e5 .if5 .left)))
+    c .records-ok .ensures ∙ rw (p .records-of .ensures)
+    (tests t (λ i. omega (arith, k .shared-slice-known3 .given i)) (e1 .if1 .left) (e2 .if2 .left) (e3 .if3 .left) (e4 .if4 .left)
+    (rw (o .offset .ensures .0) at (e5 .if5 .left)))
 
 pub well-formed-spec : {M : Type 1} → statement M
 well-formed-spec =
-    tie.close (tie.spec returns (λ c. search needs) cast-r (λ c. search needs) cast-n returns-2 returns-3 returns-4 (λ c κs. search needs) returns-5 (λ c κs. search needs) records-ok-requires returns-6)
+    tie.close (tie.spec returns (λ c. search needs) cast-r (λ c. search needs) cast-n returns-2 returns-3 returns-4 (λ c κs. search needs) returns-5
+    (λ c κs. search needs) records-ok-requires returns-6)

@@ -45,4 +45,5 @@ returns-2 c =
 
 pub answer-spec : {M : Type 1} → statement M
 answer-spec =
-    tie.close (tie.spec (λ c. search needs) (λ c. search needs) slice-aggregate-ok ok-requires (λ c. search needs) returns (λ c. search needs) slice-aggregate-no no-requires (λ c. search needs) returns-2)
+    tie.close (tie.spec (λ c. search needs) (λ c. search needs) slice-aggregate-ok ok-requires (λ c. search needs) returns (λ c. search needs)
+    slice-aggregate-no no-requires (λ c. search needs) returns-2)

@@ -2,7 +2,7 @@
 use Prim.Native.Nat.{_+_, _≤_}
 use mathlib.Core.List.{[], _∷_, _++_}
 use lib.ListN.{length}
-use Rattle.answer.specs.Packed.{unpacked}
+use Rattle.answers.specs.Packed.{unpacked}
 use Rattle.script.specs.Text.{digits, answerText, answered as answeredOf}
 use Rattle.text.specs.Words.{wordText}
 use Rattle.put.proofs.Writing.{wrote-then, room-first, room-then}
@@ -11,13 +11,15 @@ use Rattle.text.proofs.answered.Statement.{statement}
 use Rattle.text.proofs.answered.Tie as tie
 
 -- room for what follows the line number, and for what follows the word
-after-number : (p : tie.After-number) → let s = p .before .before .before in p .number .result + length (wordText (s .args .w) ++ (answerText (s .args .w) (unpacked (s .args .a)) ++ (10 ∷ []))) ≤ length (p .number .last .0)
+after-number : (p : tie.After-number) → let s = p .before .before .before in p .number .result
+    + length (wordText (s .args .w) ++ (answerText (s .args .w) (unpacked (s .args .a)) ++ (10 ∷ []))) ≤ length (p .number .last .0)
 unfolding answeredOf
 after-number p =
     let s = p .before .before .before in
     room-then (digits (s .args .n)) _ (s .args .out .now) (p .number .last .0) (s .args .at) (p .number .result) (s .pre .1) (p .number .ensures)
 
-after-word : (q : tie.After-word) → let a = q .before .before .before .before .before .before .before .args in q .word .result + length (answerText (a .w) (unpacked (a .a)) ++ (10 ∷ [])) ≤ length (q .word .last .0)
+after-word : (q : tie.After-word) → let a = q .before .before .before .before .before .before .before .args in q .word .result
+    + length (answerText (a .w) (unpacked (a .a)) ++ (10 ∷ [])) ≤ length (q .word .last .0)
 after-word q =
     let p = q .before .before .before .before in
     let a = p .before .before .before .args in
@@ -25,7 +27,8 @@ after-word q =
 
 number-requires : tie.Need-number-requires
 unfolding answeredOf
-number-requires c κs = let s = c .before .before in room-first (digits (s .args .n)) (wordText (s .args .w) ++ (answerText (s .args .w) (unpacked (s .args .a)) ++ (10 ∷ []))) (s .args .at) _ (s .pre .1)
+number-requires c κs = let s = c .before .before in room-first (digits (s .args .n))
+    (wordText (s .args .w) ++ (answerText (s .args .w) (unpacked (s .args .a)) ++ (10 ∷ []))) (s .args .at) _ (s .pre .1)
 
 word-requires : tie.Need-word-requires
 word-requires c κs =

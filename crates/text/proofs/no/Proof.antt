@@ -12,7 +12,8 @@ use Rattle.text.proofs.no.Tie as tie
 room : (p : tie.After-bytes) → let s = p .before .before .before .before .before in p .bytes .result + length (digits (s .args .number) ++ numbersText (s .args .vs .now)) ≤ length (p .bytes .last .0)
 room p =
     let s = p .before .before .before .before .before in
-    room-then (32 ∷ 110 ∷ 111 ∷ 32 ∷ []) (digits (s .args .number) ++ numbersText (s .args .vs .now)) (s .args .out .now) (p .bytes .last .0) (s .args .at) (p .bytes .result) (s .pre) (p .bytes .ensures)
+    room-then (32 ∷ 110 ∷ 111 ∷ 32 ∷ []) (digits (s .args .number) ++ numbersText (s .args .vs .now)) (s .args .out .now) (p .bytes .last .0) (s .args .at)
+    (p .bytes .result) (s .pre) (p .bytes .ensures)
 
 number-requires : tie.Need-number-requires
 number-requires c κs =

@@ -53,4 +53,8 @@ returns-8 c = rw (c .before .before .before .before .before .enum-told8 .given .
 
 pub word-spec : {M : Type 1} → statement M
 word-spec =
-    tie.close (tie.spec (λ c. search needs) (λ c. search needs) bytes-requires (λ c. search needs) (λ c. search needs) bytes-requires-2 (λ c. search needs) (λ c. search needs) bytes-requires-3 (λ c. search needs) (λ c. search needs) bytes-requires-4 (λ c. search needs) (λ c. search needs) bytes-requires-5 (λ c. search needs) (λ c. search needs) bytes-requires-6 (λ c. search needs) (λ c. search needs) bytes-requires-7 (λ c. search needs) (λ c. search needs) bytes-requires-8 (λ c. search needs) returns (λ c. search needs) returns-2 (λ c. search needs) returns-3 (λ c. search needs) returns-4 (λ c. search needs) returns-5 (λ c. search needs) returns-6 (λ c. search needs) returns-7 (λ c. search needs) returns-8)
+    tie.close (tie.spec (λ c. search needs) (λ c. search needs) bytes-requires (λ c. search needs) (λ c. search needs) bytes-requires-2 (λ c. search needs)
+    (λ c. search needs) bytes-requires-3 (λ c. search needs) (λ c. search needs) bytes-requires-4 (λ c. search needs) (λ c. search needs) bytes-requires-5
+    (λ c. search needs) (λ c. search needs) bytes-requires-6 (λ c. search needs) (λ c. search needs) bytes-requires-7 (λ c. search needs)
+    (λ c. search needs) bytes-requires-8 (λ c. search needs) returns (λ c. search needs) returns-2 (λ c. search needs) returns-3 (λ c. search needs)
+    returns-4 (λ c. search needs) returns-5 (λ c. search needs) returns-6 (λ c. search needs) returns-7 (λ c. search needs) returns-8)

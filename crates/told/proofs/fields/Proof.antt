@@ -70,4 +70,7 @@ returns-8 c = rw (c .before .before .before .before .enum-told8 .given .1) (c .b
 
 pub fields-spec : {M : Type 1} → statement M
 fields-spec =
-    tie.close (tie.spec (λ c. search needs) numbers-requires (λ c. search needs) numbers-requires-2 (λ c. search needs) step-fields-requires (λ c. search needs) notice-fields-requires (λ c. search needs) numbers-requires-3 (λ c. search needs) numbers-requires-4 (λ c. search needs) numbers-requires-5 (λ c. search needs) numbers-requires-6 (λ c. search needs) returns (λ c. search needs) returns-2 (λ c. search needs) returns-3 (λ c. search needs) returns-4 (λ c. search needs) returns-5 (λ c. search needs) returns-6 (λ c. search needs) returns-7 (λ c. search needs) returns-8)
+    tie.close (tie.spec (λ c. search needs) numbers-requires (λ c. search needs) numbers-requires-2 (λ c. search needs) step-fields-requires
+    (λ c. search needs) notice-fields-requires (λ c. search needs) numbers-requires-3 (λ c. search needs) numbers-requires-4 (λ c. search needs)
+    numbers-requires-5 (λ c. search needs) numbers-requires-6 (λ c. search needs) returns (λ c. search needs) returns-2 (λ c. search needs) returns-3
+    (λ c. search needs) returns-4 (λ c. search needs) returns-5 (λ c. search needs) returns-6 (λ c. search needs) returns-7 (λ c. search needs) returns-8)

@@ -43,4 +43,5 @@ returns-3 c =
 
 pub step-spec : {M : Type 1} → statement M
 step-spec =
-    tie.close (tie.spec (λ c. search needs) bytes-requires (λ c. search needs) returns (λ c. search needs) bytes-requires-2 (λ c. search needs) returns-2 (λ c. search needs) bytes-requires-3 (λ c. search needs) returns-3)
+    tie.close (tie.spec (λ c. search needs) bytes-requires (λ c. search needs) returns (λ c. search needs) bytes-requires-2 (λ c. search needs) returns-2
+    (λ c. search needs) bytes-requires-3 (λ c. search needs) returns-3)

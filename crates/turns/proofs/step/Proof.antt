@@ -35,7 +35,8 @@ returns : tie.Need-returns
 returns c =
     let a = c .before .before .before in
     let s = start a in
-    told (s .args .t .now) (s .args .n) false _ (not-done (s .args .t .now) (good-formed (s .pre .0)) (s .args .k) (s .args .n) (s .pre .1) (a .stabilize-at .result) (a .stabilize-at .ensures .0) (c .match .keys2)) (left a)
+    told (s .args .t .now) (s .args .n) false _ (not-done (s .args .t .now) (good-formed (s .pre .0)) (s .args .k) (s .args .n) (s .pre .1)
+    (a .stabilize-at .result) (a .stabilize-at .ensures .0) (c .match .keys2)) (left a)
 
 deliver-requires : tie.Need-deliver-requires
 deliver-requires c κs =
@@ -50,7 +51,8 @@ returns-2 c =
     let a = h .before .before .before .before in
     let s = start a in
     let r = is-done (s .args .t .now) (good-formed (s .pre .0)) (s .args .k) (s .args .n) (s .pre .1) (a .stabilize-at .result) (a .stabilize-at .ensures .0) (h .h .given .0 .0) (h .h .given .1) in
-    told (s .args .t .now) (s .args .n) true _ (done-true (s .args .n) (h .h .given .0 .0) (tableOf (s .args .t .now)) r) (noticed (s .pre .0) (s .pre .1) (left a) (h .h .given .0 .0) r (d .deliver .ensures))
+    told (s .args .t .now) (s .args .n) true _ (done-true (s .args .n) (h .h .given .0 .0) (tableOf (s .args .t .now)) r)
+    (noticed (s .pre .0) (s .pre .1) (left a) (h .h .given .0 .0) r (d .deliver .ensures))
 
 pub step-spec : {M : Type 1} → statement M
 step-spec = tie.close (tie.spec stabilize-at-requires (λ c. search needs) (λ c. search needs) returns deliver-requires (λ c. search needs) returns-2)

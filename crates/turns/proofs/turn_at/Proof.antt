@@ -6,7 +6,7 @@ use borrow.Author.Needs.{needs}
 use Rattle.model.specs.Table.{tableOf, membersIn, ids}
 use Rattle.model.specs.Settle.{afterTurn}
 use Rattle.model.specs.Calls.{written}
-use Rattle.table.specs.Search.{Stands}
+use Rattle.table.specs.Located.{Stands}
 use Rattle.table.proofs.Members.{id-of}
 use Rattle.turns.proofs.Lasting.{good-formed, good-still, stands-still}
 use Rattle.turns.proofs.Turns.{finished-next, turned}

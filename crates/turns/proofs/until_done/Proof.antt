@@ -58,4 +58,5 @@ returns-2 c = let l = c .before in let s = start l in until-none (s .pre .0) (s 
 
 pub until-done-spec : {M : Type 1} → statement M
 until-done-spec =
-    tie.close (tie.spec Inv-loop μ-loop slice-read-left cast-left add-left loop-holds step-requires (λ c. search needs) returns (λ c. search needs) (λ c. search needs) loop-again (λ c. search needs) returns-2)
+    tie.close (tie.spec Inv-loop μ-loop slice-read-left cast-left add-left loop-holds step-requires (λ c. search needs) returns (λ c. search needs)
+    (λ c. search needs) loop-again (λ c. search needs) returns-2)

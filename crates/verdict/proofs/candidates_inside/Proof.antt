@@ -20,27 +20,29 @@ Inv-loop s r n w p₀ left₀ p left = (left * recordSize r ≤ length p) × (ev
 abbrev μ-loop : tie.MeasureT-loop
 μ-loop s r n w p₀ left₀ p left = left
 
--- the width of a record, and the record at the front
-wide : (c : tie.In-loop Inv-loop μ-loop) → c .before .before .width .result ≡ recordSize (c .before .before .before .before .args .r)
-wide c = c .before .before .width .ensures
+-- the size of a record, and the record at the front
+sized : (c : tie.In-loop Inv-loop μ-loop) → c .before .before .record-size .result ≡ recordSize (c .before .before .before .before .args .r)
+sized c = c .before .before .record-size .ensures
 
-one : (c : tie.In-loop Inv-loop μ-loop) → c .before .before .width .result ≤ length (c .before .loop .p .now)
+one : (c : tie.In-loop Inv-loop μ-loop) → c .before .before .record-size .result ≤ length (c .before .loop .p .now)
 one c =
     let k = c .before .loop in
-    rw (wide c) (one-fits (c .before .before .before .before .args .r) (k .left) (k .p .now) (c .loop-test .taken) (k .inv .0))
+    rw (sized c) (one-fits (c .before .before .before .before .args .r) (k .left) (k .p .now) (c .loop-test .taken) (k .inv .0))
 
 slice-aggregate-candidate-inside : tie.Need-slice-aggregate-candidate-inside Inv-loop μ-loop
 slice-aggregate-candidate-inside c = sym (length-take-le _ _ (one (c .before)))
 
 candidate-inside-requires : tie.Need-candidate-inside-requires Inv-loop μ-loop
-candidate-inside-requires c κs = let i = c .before in rw (length-take-le _ _ (one i), wide i) (omega (arith, i .before .before .before .before .pre .0))
+candidate-inside-requires c κs = let i = c .before in rw (length-take-le _ _ (one i), sized i) (omega (arith, i .before .before .before .before .pre .0))
 
 -- the record's part answers as the table does
-same-test : (c : tie.After-candidate-inside Inv-loop μ-loop) → c .candidate-inside .result ≡ candidateInside (memberOf (c .before .before .before .before .before .before .args .r) (c .before .before .before .loop .p .now))
+same-test : (c : tie.After-candidate-inside Inv-loop μ-loop)
+    → c .candidate-inside .result ≡ candidateInside (memberOf (c .before .before .before .before .before .before .args .r)
+    (c .before .before .before .loop .p .now))
 same-test c =
     let i = c .before .before in
     let r = i .before .before .before .before .args .r in
-    c .candidate-inside .ensures r (search needs) ∙ ap candidateInside (member-part r _ (i .before .loop .p .now) (wide i) (one i))
+    c .candidate-inside .ensures r (search needs) ∙ ap candidateInside (member-part r _ (i .before .loop .p .now) (sized i) (one i))
 
 sub-p : tie.Need-sub-p Inv-loop μ-loop
 sub-p c = one (c .before .before .before)
@@ -52,8 +54,10 @@ loop-again : tie.Need-loop-again Inv-loop μ-loop
 loop-again c =
     let i = c .before .before .before .before in
     let k = i .before .loop in
-    let a = i .before .before .before .before .args in
-    (rw (part-from, wide i) (rest-fits (a .r) (k .left) (k .p .now) (omega arith) (k .inv .0)), rw (part-from, wide i) (inside-on (a .r) (k .left) (k .p .now) _ (omega arith) (same-test (c .before .before)) (c .before .if1 .taken) ∙ k .inv .1))
+    let a = i .before .before .before .before .args in (
+      rw (part-from, sized i) (rest-fits (a .r) (k .left) (k .p .now) (omega arith) (k .inv .0)),
+      rw (part-from, sized i) (inside-on (a .r) (k .left) (k .p .now) _ (omega arith) (same-test (c .before .before)) (c .before .if1 .taken) ∙ k .inv .1),
+    )
 
 returns : tie.Need-returns Inv-loop μ-loop
 returns c =
@@ -69,4 +73,5 @@ returns-2 c =
 
 pub candidates-inside-spec : {M : Type 1} → statement M
 candidates-inside-spec =
-    tie.close (tie.spec Inv-loop μ-loop (λ c κs. search needs) (λ c. search needs) slice-aggregate-candidate-inside candidate-inside-requires (λ c. search needs) sub-p part-p-start (λ c. search needs) (λ c. search needs) (λ c. search needs) loop-again returns returns-2)
+    tie.close (tie.spec Inv-loop μ-loop (λ c κs. search needs) (λ c. search needs) slice-aggregate-candidate-inside candidate-inside-requires
+    (λ c. search needs) sub-p part-p-start (λ c. search needs) (λ c. search needs) (λ c. search needs) loop-again returns returns-2)

@@ -31,7 +31,8 @@ returns c =
     let r = c .before in
     let m = r .before in
     let ws = start r .args .t .now in
-    c .candidates-inside .ensures ∙ ap (λ (l : List ℕ). every candidateInside (membersOf (getD ws 0 0) (getD ws 1 0) l)) (r .records-of .ensures) ∙ sound-inside (tableOf ws) (lively (m .before)) (many m)
+    c .candidates-inside .ensures ∙ ap (λ (l : List ℕ). every candidateInside (membersOf (getD ws 0 0) (getD ws 1 0) l)) (r .records-of .ensures)
+    ∙ sound-inside (tableOf ws) (lively (m .before)) (many m)
 
 returns-2 : tie.Need-returns-2
 returns-2 c =
@@ -43,4 +44,5 @@ returns-3 c = sound-cut-off _ (sym (c .before .all-live .ensures) ∙ c .if1 .le
 
 pub is-sound-spec : {M : Type 1} → statement M
 is-sound-spec =
-    tie.close (tie.spec (λ c. search needs) (λ c. search needs) (λ c. search needs) (λ c. search needs) (λ c κs. search needs) (λ c κs. search needs) candidates-inside-requires returns returns-2 returns-3)
+    tie.close (tie.spec (λ c. search needs) (λ c. search needs) (λ c. search needs) (λ c. search needs) (λ c κs. search needs) (λ c κs. search needs)
+    candidates-inside-requires returns returns-2 returns-3)

@@ -9,8 +9,9 @@ use Rattle.words.proofs.offset.Statement.{statement}
 use Rattle.words.proofs.offset.Tie as tie
 
 -- the product, and its bound
-small : (p : tie.After-width) → (p .before .args .k * p .width .result ≡ p .before .args .k * recordSize (p .before .args .r)) × (p .before .args .k * p .width .result ≤ 256 * recordSize 8)
-small p = rw (p .width .ensures) (refl, most-words (p .before .args .k) (p .before .args .r) (p .before .pre .1) (p .before .pre .0))
+small : (p : tie.After-record-size) → (p .before .args .k * p .record-size .result ≡ p .before .args .k * recordSize (p .before .args .r))
+    × (p .before .args .k * p .record-size .result ≤ 256 * recordSize 8)
+small p = rw (p .record-size .ensures) (refl, most-words (p .before .args .k) (p .before .args .r) (p .before .pre .1) (p .before .pre .0))
 
 mul-result : tie.Need-mul-result
 mul-result c = omega (arith, small c)

@@ -10,20 +10,20 @@ use Rattle.words.proofs.open_gap.Statement.{statement}
 use Rattle.words.proofs.open_gap.Tie as tie
 
 abbrev Inv-loop : tie.InvT-loop
-Inv-loop tail₀ used width i₀ tail i = (i ≤ used) × (length tail ≡ length tail₀) × (tail ≡ raised tail₀ used width i)
+Inv-loop tail₀ used gap i₀ tail i = (i ≤ used) × (length tail ≡ length tail₀) × (tail ≡ raised tail₀ used gap i)
 
 abbrev μ-loop : tie.MeasureT-loop
-μ-loop tail₀ used width i₀ tail i = i
+μ-loop tail₀ used gap i₀ tail i = i
 
 loop-holds : tie.Need-loop-holds Inv-loop μ-loop
-loop-holds c = let a = c .args in (search needs, refl, raised-none (a .tail .now) (a .used) (a .width) (c .pre))
+loop-holds c = let a = c .args in (search needs, refl, raised-none (a .tail .now) (a .used) (a .gap) (c .pre))
 
 loop-again : tie.Need-loop-again Inv-loop μ-loop
 loop-again c =
     let k = c .before .before .loop in
     let s = c .before .before .before in
     let a = s .args in
-    (omega arith, simp length-set (k .inv .1), rw (k .inv .2) (raised-more (a .tail .now) (a .used) (a .width) (s .pre) (k .i) (c .before .loop-test .taken) (k .inv .0)))
+    (omega arith, simp length-set (k .inv .1), rw (k .inv .2) (raised-more (a .tail .now) (a .used) (a .gap) (s .pre) (k .i) (c .before .loop-test .taken) (k .inv .0)))
 
 returns : tie.Need-returns Inv-loop μ-loop
 returns c =
@@ -33,4 +33,5 @@ returns c =
 
 pub open-gap-spec : {M : Type 1} → statement M
 open-gap-spec =
-    tie.close (tie.spec Inv-loop μ-loop loop-holds (λ c. search needs) (λ c. search needs) (λ c. search needs) (λ c. search needs) (λ c. search needs) (λ c. search needs) (λ c. search needs) loop-again (λ c. search needs) returns)
+    tie.close (tie.spec Inv-loop μ-loop loop-holds (λ c. search needs) (λ c. search needs) (λ c. search needs) (λ c. search needs) (λ c. search needs)
+    (λ c. search needs) (λ c. search needs) loop-again (λ c. search needs) returns)

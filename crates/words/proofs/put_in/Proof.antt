@@ -18,7 +18,7 @@ returns c =
     let sized = moved .before in
     let a = sized .before .before .before .args in
     let w = recordSize (a .r) in
-    let opened = rw (sized .width .ensures) at (moved .open-gap .ensures) in
+    let opened = rw (sized .record-size .ensures) at (moved .open-gap .ensures) in
     wrote .write-member .ensures ∙ ap (λ (x : List ℕ). recordOf (view (a .r) (a .m)) ++ x) (ap (λ (x : List ℕ). drop w x) opened ∙ drop-at (take w (a .tail .now)) _ w (simp length-take (omega arith)))
 
 pub put-in-spec : {M : Type 1} → statement M

@@ -38,8 +38,13 @@ loop-again c =
     let a = c .before .before .before .args in
     let m = a .m in
     let e : length (k .part) ≡ length (a .part .now) = k .inv .1 ∙ simp length-set in
-    let f : length (m .successors) ≡ 8 = search needs in
-    (omega arith, simp length-set e, rw (k .inv .2, add-one) (paste-suc (set (set (set (set (a .part .now) 0 (m .id)) 1 (m .predecessor)) 2 (m .pending)) 3 (m .candidate)) 4 (m .successors) (k .i) 0 (simp length-set (omega arith)) (omega arith)))
+    let f : length (m .successors) ≡ 8 = search needs in (
+      omega arith,
+      simp length-set e,
+      rw (k .inv .2, add-one)
+          (paste-suc (set (set (set (set (a .part .now) 0 (m .id)) 1 (m .predecessor)) 2 (m .pending)) 3 (m .candidate)) 4 (m .successors) (k .i) 0
+          (simp length-set (omega arith)) (omega arith)),
+    )
 
 same-length : tie.Need-same-length Inv-loop μ-loop
 same-length c = c .before .loop .inv .1 ∙ simp length-set
@@ -55,4 +60,5 @@ returns c =
 
 pub write-member-spec : {M : Type 1} → statement M
 write-member-spec =
-    tie.close (tie.spec Inv-loop μ-loop (λ c. search needs) slice-write-part-2 slice-write-part-3 slice-write-part-4 loop-holds (λ c. search needs) (λ c. search needs) (λ c. search needs) (λ c. search needs) slice-write-part-5 (λ c. search needs) (λ c. search needs) loop-again same-length returns)
+    tie.close (tie.spec Inv-loop μ-loop (λ c. search needs) slice-write-part-2 slice-write-part-3 slice-write-part-4 loop-holds (λ c. search needs)
+    (λ c. search needs) (λ c. search needs) (λ c. search needs) slice-write-part-5 (λ c. search needs) (λ c. search needs) loop-again same-length returns)

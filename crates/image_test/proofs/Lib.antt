@@ -1,0 +1,3 @@
+-- Laws that the proofs of this crate and of `image` cite.
+pub mod Tests
+pub mod IsImage

@@ -1,3 +1,0 @@
--- Laws that the proofs of this crate and of `image` cite.
-pub mod Tests
-pub mod Judged

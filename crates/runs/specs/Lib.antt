@@ -1,2 +1,0 @@
--- What contracts cite of this kind of answer.
-pub mod Answers
