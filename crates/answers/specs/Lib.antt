@@ -11,5 +11,5 @@ pub mod ByteCount
 pub mod Field
 pub mod Runs
 pub mod Tested
-pub mod Verdict
+pub mod RoundVerdict
 pub mod Settled

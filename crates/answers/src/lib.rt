@@ -5,11 +5,11 @@ pub mod found;
 pub mod member_count;
 pub mod notice;
 pub mod report;
+pub mod round_verdict;
 pub mod runs;
 pub mod settled;
 pub mod step;
 pub mod tested;
-pub mod verdict;
 pub mod yes_no;
 
 // Number 0 or the refusal; the values as document 01 lists them, unused ones 0, and how many there are; 8 has its member in values[0].

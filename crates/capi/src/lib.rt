@@ -164,7 +164,7 @@ pub extern "C" fn ring_principal(table: &[u32], n: u32) -> Answer
 pub extern "C" fn ring_round(table: &mut [u32]) -> Answer
     ensures { λ a. ⌜ (a ≡ packed (roundAnswer (now (table .entry)))) × (now (table .exit) ≡ roundWords (now (table .entry))) ⌝ }
 {
-    answers::verdict::numbers(settle::round(table))
+    answers::round_verdict::numbers(settle::round(table))
 }
 
 // Rounds until the table is ideal, at most so many.

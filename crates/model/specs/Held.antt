@@ -34,7 +34,8 @@ abbrev pub _upTo_ : ℕ → ℕ → Run
 s upTo e = record { start = s; end = e }
 
 -- the runs of the member n: one, from the keys at or below the member before it to those at or below n;
--- of the lowest always two, first the keys above the last member, which is before it, then those at or below itself
+-- of the lowest always two, first the keys above the last member, which is before it, then those at or below itself.
+-- For rising keys they are the positions of the keys whose `holder` is n (`held-parts`: theory, Held)
 unfoldable pub runsOf : List Member → ℕ → List ℕ → List Run
 runsOf ms n ks =
     if eqb n (lowest ms)

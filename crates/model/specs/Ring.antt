@@ -98,7 +98,8 @@ abbrev pub reaches : List Member → ℕ → ℕ → ℕ → Bool
 reaches ms zero z x = false
 reaches ms (suc n) z x = option (bestSuccessor ms x) false (λ y. eqb y z || reaches ms n z y)
 
--- x is on the ring: it comes back to itself by one or more moves; as many as there are members are enough
+-- x is on the ring: it comes back to itself by one or more moves; looking at as many as there are members misses none
+-- (`ring-as-computed`: theory, Walks)
 abbrev pub onRing : List Member → ℕ → Bool
 onRing ms x = reaches ms (length ms) x x
 
@@ -106,7 +107,8 @@ onRing ms x = reaches ms (length ms) x x
 abbrev pub ringMembers : List Member → ℕ
 ringMembers ms = count (onRing ms) (ids ms)
 
--- the moves to the ring from x, after k of them and with n places left to look at; the member count if the walk never comes there
+-- the moves to the ring from x, after k of them and with n places left to look at; the member count if the walk never comes there.
+-- With as many places as members the bound never ends a walk (`moves-told`: theory, Moves)
 abbrev pub movesFrom : List Member → ℕ → ℕ → ℕ → ℕ
 movesFrom ms zero k x = length ms
 movesFrom ms (suc n) k x = if onRing ms x then k else option (bestSuccessor ms x) (length ms) (λ y. movesFrom ms n (suc k) y)

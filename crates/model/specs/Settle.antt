@@ -29,7 +29,8 @@ lastStep n T = delivered n (getD (nextReply n T) 1 0) (stabilized n T)
 unfoldable pub finished : ℕ → Table → Table
 finished n T = if isPending (named (T .members) n) then lastStep n T else T
 
--- stabilize steps of n until one replies "done", and its notice delivered. The number k bounds the steps: on a sound table r + 1 are enough
+-- stabilize steps of n until one replies "done", and its notice delivered. The number k, which document 02 does not have, bounds the
+-- steps: r + 1 never end them on a sound table (`steps-end`: theory, BoundProof)
 abbrev pub untilDone : ℕ → ℕ → Table → Table
 untilDone zero n T = T
 untilDone (suc k) n T = if isDone n T then lastStep n T else untilDone k n (stabilized n T)

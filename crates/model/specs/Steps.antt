@@ -151,7 +151,7 @@ without n T = withoutThose (isNamed n) T
 -- Find
 
 -- the walk at q, looking for the key k after so many moves and with so many entries passed over; a list without a live entry is 8 and q.
--- The first number bounds the places stood at: the member count is enough on every well-formed table.
+-- The first number bounds the places stood at: with the member count it never ends a walk (`lookup-answers`: theory, Lookup)
 abbrev pub lookupFrom : List Member → ℕ → ℕ → ℕ → ℕ → ℕ → Answer
 lookupFrom ms zero k q moves passed = record { number = 8; values = q ∷ [] }
 lookupFrom ms (suc n) k q moves passed =

@@ -6,11 +6,11 @@ ghost use Rattle.model.specs.Answer.{accepted};
 ghost use Rattle.model.specs.Settle.{afterRound, afterSettle, settleReply};
 ghost use Rattle.model.specs.Calls.{written, roundAnswer, roundWords, settleAnswer, settleWords};
 ghost use Rattle.theory.specs.Runs.{Good};
-ghost use Rattle.answers.specs.Verdict.{answerOf as verdictOf};
+ghost use Rattle.answers.specs.RoundVerdict.{answerOf as verdictOf};
 ghost use Rattle.answers.specs.Settled.{answerOf as settledOf};
 ghost use Rattle.settle.specs.Begun.{Begins};
+use answers::round_verdict::RoundVerdict;
 use answers::settled::Settled;
-use answers::verdict::Verdict;
 
 // A table before its first round.
 enum Begun {
@@ -75,12 +75,12 @@ fn rounds_of(t: &mut [u32], limit: u32, passed: u32) -> Settled
 }
 
 // One round: the verdict after it, or 1 or 14 with the table unchanged.
-pub fn round(t: &mut [u32]) -> Verdict
+pub fn round(t: &mut [u32]) -> RoundVerdict
     ensures { λ a. ⌜ (verdictOf a ≡ roundAnswer (now (t .entry))) × (now (t .exit) ≡ roundWords (now (t .entry))) ⌝ }
 {
     match begun_of(t) {
-        Begun::Passed(_) => Verdict::Is(round_of(t)),
-        Begun::Declined(c) => Verdict::Declined(c),
+        Begun::Passed(_) => RoundVerdict::Is(round_of(t)),
+        Begun::Declined(c) => RoundVerdict::Declined(c),
     }
 }
 

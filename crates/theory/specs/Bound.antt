@@ -33,9 +33,12 @@ pub record AtRest (ws : List ℕ) : Type 0 where
 abbrev pub SettlesAfter : (List ℕ → ℕ) → Type 0
 SettlesAfter bound = (ws : List ℕ) → wellFormed ws ≡ true → sound (tableOf ws) ≡ true → (k : ℕ) → bound ws ≤ k → AtRest (rounds k ws)
 
--- members - 1; and document 02's number, 2 × s × s + r + 1 for s members
+-- members - 1; 255, since no table has more than 256 members; and document 02's number, 2 × s × s + r + 1 for s members
 abbrev pub oneLess : List ℕ → ℕ
 oneLess ws = length (membersIn ws) - 1
+
+abbrev pub mostRounds : List ℕ → ℕ
+mostRounds ws = 255
 
 abbrev pub document02 : List ℕ → ℕ
 document02 ws = 2 * length (membersIn ws) * length (membersIn ws) + tableOf ws .r + 1

@@ -20,7 +20,7 @@ use Rattle.laws.specs.Lists.{In, found, live-in, length-ids, any-in, count-any,
 use Rattle.laws.specs.Accepted.{settle-accepts}
 use Rattle.laws.specs.Words.{written-table, written-same, written-rest, written-over}
 use Rattle.laws.specs.Tables.{formed-facts, wellFormed-facts, sound-facts, facts-sound, formed-lists}
-use Rattle.theory.specs.Bound.{enough, rounds, AtRest, SettlesAfter, oneLess, document02, EnoughIsFew, SettleEnds, SettleLeaves, isUpkeep, roundsIn, UpkeepSettles, StepsEnd}
+use Rattle.theory.specs.Bound.{enough, rounds, AtRest, SettlesAfter, oneLess, mostRounds, document02, EnoughIsFew, SettleEnds, SettleLeaves, isUpkeep, roundsIn, UpkeepSettles, StepsEnd}
 use Rattle.theory.specs.Keep.{Kept}
 use Rattle.theory.specs.Runs.{Good, good-kept, written-good}
 use Rattle.theory.specs.New.{new-ideal}
@@ -310,3 +310,6 @@ settle-ends ws wf so limit h =
 
 pub settle-ends-one-less : SettleEnds oneLess
 settle-ends-one-less ws wf so limit h = settle-ends ws wf so limit (omega (arith, enough-at-most ws so))
+
+pub settle-ends-255 : SettleEnds mostRounds
+settle-ends-255 ws wf so limit h = settle-ends-one-less ws wf so limit (omega (arith, wellFormed-facts ws wf .table .count-high))

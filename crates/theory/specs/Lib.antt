@@ -27,6 +27,7 @@ pub mod Far
 pub mod Right
 pub mod BoundProof
 pub mod Passed
+pub mod Joins
 pub mod Served
 pub mod Tight
 pub mod Demand3

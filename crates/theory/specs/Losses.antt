@@ -1,4 +1,5 @@
--- An accepted loss, and the audit after it. On a sound table: the verdict after it is 0 exactly where no withdrawal would have been granted.
+-- An accepted loss, and the audit after it. On a sound table: the verdict after it is 0 exactly where no withdrawal would have been granted. Where one
+-- would have been, it would have left the same words.
 use mathlib.Core.Path.{_≡_, refl, sym, ap, _∙_}
 use mathlib.Core.Bool.{Bool, true, false, not}
 use mathlib.Core.List.{List}
@@ -11,9 +12,9 @@ use Rattle.model.specs.Table.{Member, tableOf, membersIn, wellFormed}
 use Rattle.model.specs.Ring.{live, hasLive, principals, sound, verdict}
 use Rattle.model.specs.Steps.{without}
 use Rattle.model.specs.Refusals.{memberRefusal, leaveRefusal, cutsOff, tooFewPrincipals}
-use Rattle.model.specs.Calls.{failAnswer, failWords, leaveAnswer}
+use Rattle.model.specs.Calls.{failAnswer, failWords, leaveAnswer, leaveWords}
 use Rattle.model.specs.Run.{Leave, Fail, callAnswer, callWords, accepts}
-use Rattle.laws.specs.Accepted.{answer-number, member-accepted}
+use Rattle.laws.specs.Accepted.{answer-number, member-accepted, member-accepts, leave-accepted}
 use Rattle.laws.specs.Verdicts.{verdict-few, verdict-cut-off}
 use Rattle.theory.specs.Left.{lost-table}
 use Rattle.theory.specs.Runs.{fail-good}
@@ -57,3 +58,13 @@ loss-judged ws n h f = (granted, ungranted)
 
     ungranted : accepts ws (Leave n) ≡ false → verdict (tableOf (failWords ws n)) ≡ 0
     ungranted a = ap verdict (lost-table ws n e) ∙ declined-unsound ws n h (member-accepted ws n e) (λ q. eqb-false _ 0 (sym (leave-numbers ws n) ∙ a) q)
+
+-- where a withdrawal is granted, a loss in its place answers the same and leaves the same words
+pub granted-as-loss : (ws : List ℕ) (n : ℕ) → accepts ws (Leave n) ≡ true →
+    (callAnswer ws (Fail n) ≡ callAnswer ws (Leave n))
+    × (callWords ws (Fail n) ≡ callWords ws (Leave n))
+unfolding callAnswer callWords failAnswer failWords leaveAnswer leaveWords
+granted-as-loss ws n a =
+    let e : leaveRefusal ws n ≡ 0 = eqb-true _ 0 (sym (leave-numbers ws n) ∙ a) in
+    let m = leave-accepted ws n e in
+    rw (e, member-accepts ws n (m .table) (m .is-member)) (refl, refl)

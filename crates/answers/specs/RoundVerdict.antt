@@ -4,19 +4,19 @@ use mathlib.Core.Path.{_≡_, refl}
 use mathlib.Core.List.{List, [], _∷_}
 use Rattle.model.specs.Answer.{Answer, accepted, declined}
 use Rattle.answers.specs.ReadBack.{OneToOne, read-back-one-to-one}
-use Rattle.answers.specs.declared.verdict.Verdict.{Verdict}
-use Rattle.answers.specs.declared.verdict.Verdict.the-variants.{Is, Declined}
+use Rattle.answers.specs.declared.round_verdict.RoundVerdict.{RoundVerdict}
+use Rattle.answers.specs.declared.round_verdict.RoundVerdict.the-variants.{Is, Declined}
 
-abbrev pub answerOf : Verdict → Answer
+abbrev pub answerOf : RoundVerdict → Answer
 answerOf (Is v) = accepted (v ∷ [])
 answerOf (Declined k) = declined k
 
 -- the case that a number and values are
-abbrev caseOf : ℕ → List ℕ → Verdict
+abbrev caseOf : ℕ → List ℕ → RoundVerdict
 caseOf k [] = Declined k
 caseOf k (v ∷ vs) = Is v
 
-read-back : (a : Verdict) → caseOf (answerOf a .number) (answerOf a .values) ≡ a
+read-back : (a : RoundVerdict) → caseOf (answerOf a .number) (answerOf a .values) ≡ a
 read-back (Is v) = refl
 read-back (Declined k) = refl
 

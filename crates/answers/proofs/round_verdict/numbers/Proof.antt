@@ -2,8 +2,8 @@
 use mathlib.Core.Path.{refl}
 use native.Mathlib.Omega.{arith}
 use borrow.Author.Needs.{needs}
-use Rattle.answers.proofs.verdict.numbers.Statement.{statement}
-use Rattle.answers.proofs.verdict.numbers.Tie as tie
+use Rattle.answers.proofs.round_verdict.numbers.Statement.{statement}
+use Rattle.answers.proofs.round_verdict.numbers.Tie as tie
 
 returns : tie.Need-returns
 returns c = rw (c .before .a .given .1) (record { packs = refl; few = omega arith })
