@@ -8,7 +8,7 @@ use std::collections::{BTreeMap, BTreeSet};
 
 /// Words in backticks, and dependencies of crates, that are not ours: of the toolchain, of Rust, of C, of the shell. Sorted.
 const NOT_OURS: &str = "END GLIBC_TUNABLES List axioms cargo copy_within get_unchecked io libc libraries-built logic-built memmove mut \
-                        native no-vectorize-loops no-vectorize-slp requires rustc stdio.h target";
+                        native no-vectorize-loops no-vectorize-slp rattle-kit-5b-plain requires rustc stdio.h stdlib.h target";
 const DEFINITIONS: &str = "model"; // the crate of the column "definitions (model)"
 const THEOREMS: &str = "theory"; // the crate of a module that is named without one
 const PICTURED: &str = "docs/ARCHITECTURE.md"; // the page with the floors and, fenced, the picture

@@ -7,7 +7,8 @@
 
 uint32_t turn_of(uint32_t *table, size_t words, uint32_t place);
 uint32_t rounds_enough(const uint32_t *table, size_t words);
-uint32_t join_by(uint32_t *table, size_t words, uint32_t j, uint32_t p);
+uint32_t join_anywhere(uint32_t *table, size_t words, uint32_t j);
+uint32_t report_loss(uint32_t *table, size_t words, uint32_t n);
 size_t screen(const uint32_t *table, size_t words, const uint32_t *keys, size_t count);
 uint32_t principals(const uint32_t *table, size_t words);
 

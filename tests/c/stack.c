@@ -127,11 +127,11 @@ static void run(int c)
     }
     if (used > deepest[c]) deepest[c] = used;
     met[c] |= BIT(c == HELD ? runs.number : answer.number);
-    if (c == 2 && answer.number == 0) replies |= BIT(answer.values[0]);
-    if (c == HELD && runs.number == 0) held_runs |= BIT(runs.runs);
-    if (c == PRINCIPAL && answer.number == 0) principals |= BIT(answer.values[0]);
-    if (c == ROUND && answer.number == 0) verdicts |= BIT(answer.values[0]);
-    if (c == SETTLE && answer.number == 0 && answer.values[0] > most_rounds) most_rounds = answer.values[0];
+    if (c == 2 && answer.number == RING_OK) replies |= BIT(answer.values[0]);
+    if (c == HELD && runs.number == RING_OK) held_runs |= BIT(runs.runs);
+    if (c == PRINCIPAL && answer.number == RING_OK) principals |= BIT(answer.values[0]);
+    if (c == ROUND && answer.number == RING_OK) verdicts |= BIT(answer.values[0]);
+    if (c == SETTLE && answer.number == RING_OK && answer.values[0] > most_rounds) most_rounds = answer.values[0];
 }
 
 static void on(uint32_t of_r, size_t members, uint32_t gap)
@@ -154,7 +154,8 @@ static void held(size_t of, uint32_t last)
     keys[of - 1]++;
 }
 
-/* A ring in which every second member but the first few was lost, a dead candidate is pending and a predecessor is dead: a round, settle with each sort of limit; and on a table that is not sound. */
+/* A ring in which every second member but the first few was lost, a dead candidate is pending and a predecessor is dead: a round, settle with each
+   sort of limit; and on a table that is not sound. */
 static void settled(uint32_t of_r, size_t members, uint32_t gap)
 {
     size_t i;
@@ -163,13 +164,13 @@ static void settled(uint32_t of_r, size_t members, uint32_t gap)
     a = 255, run(SETTLE);
     for (i = of_r + 2; i < members; i += 2) a = (uint32_t)i * gap, run(5);
     set_pending(table, 0, 1, 1); /* its candidate dead */
-    record_at(table, 1)[RECORD_PREDECESSOR] = 1;
+    record_at(table, 1)[RING_PREDECESSOR] = 1;
     run(ROUND);
     a = 0, run(SETTLE);
     a = 1, run(SETTLE);
     a = UINT32_MAX, run(SETTLE);
     run(ROUND);
-    for (i = 0; i < of_r; i++) record_at(table, 0)[RECORD_LIST + i] = 3;
+    for (i = 0; i < of_r; i++) record_at(table, 0)[RING_LIST + i] = 3;
     run(ROUND);
     run(SETTLE);
 }
@@ -181,7 +182,7 @@ static void every(uint32_t of_r, size_t members)
     const size_t field = RING_IMAGE_BYTES(of_r, 1) - RING_IMAGE_BYTES(of_r, 0);
     int c;
     on(of_r, 1, gap);
-    words = TABLE_HEADER, on(of_r, members, gap);
+    words = RING_HEADER_WORDS, on(of_r, members, gap);
     words = RING_TABLE_WORDS_MOST, on(of_r, members, gap);
     run(7);
     count = 256, run(8);
@@ -189,7 +190,7 @@ static void every(uint32_t of_r, size_t members)
     bytes = 0, run(11);
     bytes = sizeof image, run(11);
     bytes = RING_IMAGE_BYTES(of_r, members), run(12);
-    words = TABLE_HEADER, run(12);
+    words = RING_HEADER_WORDS, run(12);
     words = RING_TABLE_WORDS_MOST, run(9);
     for (at = 0; at <= bytes; at += at == 0 ? IMAGE_MEMBERS : field) run(13);
     at = 1, run(13);
@@ -226,15 +227,15 @@ static void every(uint32_t of_r, size_t members)
     run(7);
     count = 256, run(8);
     on(of_r, members, gap);
-    record_at(table, 0)[RECORD_LIST] = 2, a = 1, b = 0, run(1);                     /* 13: a dead first entry */
+    record_at(table, 0)[RING_LIST] = 2, a = 1, b = 0, run(1);                     /* 13: a dead first entry */
     words = RING_TABLE_WORDS(of_r, members), run(1);                                /* 13, without room too */
     a = 3, run(1);                                                                  /* 4, though it is dead */
     words = RING_TABLE_WORDS_MOST;
-    record_at(table, members - 1)[RECORD_LIST] = 1, a = last + 1, b = last, run(1); /* 13, round the end */
+    record_at(table, members - 1)[RING_LIST] = 1, a = last + 1, b = last, run(1); /* 13, round the end */
     settled(of_r, members, gap);
     a = 10, b = 30, r = 20, count = 256, run(10);
     r = 40, count = 0, run(10);
-    table[TABLE_R] = 9, count = 256, bytes = sizeof image, a = 0, b = 0;
+    table[RING_R] = 9, count = 256, bytes = sizeof image, a = 0, b = 0;
     for (c = 1; c <= 11; c++) run(c);
     run(PRINCIPAL), run(ROUND), run(SETTLE);
     count = KEYS, run(HELD);
