@@ -5,7 +5,8 @@ use mathlib.Core.Bool.{true}
 use mathlib.Core.List.{List, [], _∷_, _++_}
 use native.Mathlib.Omega.{arith}
 use lib.ListN.{length, getD, take, drop, take-append-drop}
-use Rattle.model.specs.Table.{Table, headerSize, recordSize, size, tableOf, membersIn}
+use lib.Seq.{take-take}
+use Rattle.model.specs.Table.{Table, headerSize, headerOf, recordSize, size, tableOf, membersIn}
 use Rattle.model.specs.Ring.{live}
 use Rattle.model.specs.Answer.{_when_, firstOf}
 use Rattle.model.specs.Steps.{isNamed, without}
@@ -13,7 +14,7 @@ use Rattle.model.specs.Refusals.{cutsOff, tooFewPrincipals, memberRefusal, leav
 use Rattle.model.specs.Calls.{writtenFreed}
 use Rattle.laws.specs.Lists.{live-in}
 use Rattle.laws.specs.Accepted.{causes-declined}
-use Rattle.laws.specs.Words.{members-length, words-read, words-written, writtenFreed-table}
+use Rattle.laws.specs.Words.{OwnHeader, members-length, words-read, words-written, writtenFreed-table}
 use Rattle.laws.specs.Tables.{wellFormed-facts, facts-wellFormed, holds-formed, formed-lists, writtenFreed-formed}
 use Rattle.laws.specs.Removed.{staying-formed, without-length, without-size}
 use Rattle.words.proofs.Records.{most-words}
@@ -28,8 +29,14 @@ module _ (ws a : List ℕ) (f : FormedWords ws) (e : take (size (tableOf ws)) a 
   copied-table =
       let n : ℕ = size (tableOf ws) in
       let w = wellFormed-facts ws (f .right) in
-      sym (ap tableOf (take-append-drop n a)) ∙ ap (λ (l : List ℕ). tableOf (l ++ drop n a)) (e ∙ sym (words-written ws (w .header) (w .fits)))
+      sym (ap tableOf (take-append-drop n a)) ∙ ap (λ (l : List ℕ). tableOf (l ++ drop n a)) (e ∙ sym (words-written ws (w .own-header) (w .fits)))
       ∙ words-read (tableOf ws) (drop n a) (formed-lists (tableOf ws) (w .table))
+
+  copied-header : OwnHeader a
+  copied-header =
+      let n : ℕ = size (tableOf ws) in
+      ap headerOf copied-table ∙ wellFormed-facts ws (f .right) .own-header ∙ sym (take-take headerSize n ws (omega arith))
+      ∙ ap (take headerSize) (sym e) ∙ take-take headerSize n a (omega arith)
 
   pub copied-count : getD a 1 0 ≡ getD ws 1 0
   copied-count = sym (members-length (getD a 0 0) (getD a 1 0) (drop headerSize a))
@@ -38,7 +45,7 @@ module _ (ws a : List ℕ) (f : FormedWords ws) (e : take (size (tableOf ws)) a 
   pub copied-formed : length a ≡ headerSize + 256 * recordSize 8 → FormedWords a
   copied-formed h =
       let m = most-words (getD ws 1 0) (getD ws 0 0) (f .few) (f .r-high) in
-      formed-words a (facts-wellFormed a (holds-formed (tableOf ws) a copied-table (wellFormed-facts ws (f .right) .table) (omega (arith, size-words ws))))
+      formed-words a (facts-wellFormed a (holds-formed (tableOf ws) a copied-table copied-header (wellFormed-facts ws (f .right) .table) (omega (arith, size-words ws))))
 
 -- The record of a member, removed
 

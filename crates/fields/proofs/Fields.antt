@@ -20,14 +20,14 @@ pub most-bytes : (n r b : ℕ) → n ≤ 256 → r ≤ 8 → b ≡ fieldSize r �
 most-bytes n r b hn hr e = let h : fieldSize r ≤ fieldSize 8 = omega arith in rw e (refl, mul-le-mul hn h)
 
 -- `put_header`: head, three bytes, and the step count
-pub header-placed : (r n steps : ℕ) (out o1 last : List ℕ) → firstSize ≤ length out → o1 ≡ placed 0 (1 ∷ bytesOf 2 headerLength) out
-    → last ≡ placed (fieldHead + 3) (bytesOf 4 steps) (sets o1 fieldHead (r % 256 ∷ n / 256 % 256 ∷ n % 256 ∷ [])) → last ≡ placed 0 (headerBytes r n steps) out
-header-placed r n steps out o1 last h e1 e2 =
+pub header-placed : (r n : ℕ) (out o1 last : List ℕ) → firstSize ≤ length out → o1 ≡ placed 0 (1 ∷ bytesOf 2 headerLength) out
+    → last ≡ placed (fieldHead + 3) (bytesOf 4 0) (sets o1 fieldHead (r % 256 ∷ n / 256 % 256 ∷ n % 256 ∷ [])) → last ≡ placed 0 (headerBytes r n) out
+header-placed r n out o1 last h e1 e2 =
     let head : List ℕ = 1 ∷ bytesOf 2 headerLength in
     let three : List ℕ = r % 256 ∷ n / 256 % 256 ∷ n % 256 ∷ [] in
     let l1 : length o1 ≡ length out = ap length e1 ∙ placed-length 0 head out (omega arith) in
     let f1 = placed-then 0 fieldHead head three out o1 (sets o1 fieldHead three) (omega arith) refl e1 (sets-eq three o1 fieldHead (omega arith)) in
-    placed-then 0 (fieldHead + 3) (head ++ three) (bytesOf 4 steps) out (sets o1 fieldHead three) last (omega arith) refl f1 e2
+    placed-then 0 (fieldHead + 3) (head ++ three) (bytesOf 4 0) out (sets o1 fieldHead three) last (omega arith) refl f1 e2
 
 field-bytes : (r : ℕ) (ws : List ℕ) → length ws ≡ recordSize r → (2 ∷ bytesOf 2 (memberLength r)) ++ words4 (take 2 ws) ++ (getD ws 2 0 % 256 ∷ []) ++ words4 (drop 3 ws) ≡ memberField (memberOf r ws)
 field-bytes r ws h =

@@ -4,7 +4,7 @@ use mathlib.Core.Bool.{Bool, _&&_}
 use mathlib.Core.List.{List}
 use lib.Dec.{eqb}
 use lib.ListN.{getD, drop}
-use Rattle.model.specs.Image.{numberAt, field, headerContents, fieldHead, headerLength, fieldMember, tableIn}
+use Rattle.model.specs.Image.{numberAt, field, headerContents, fieldHead, headerLength, fieldMember}
 use Rattle.laws.specs.Bytes.{fieldSize}
 
 -- the bytes of the first field: after them the members' start
@@ -19,13 +19,13 @@ imageSize r n = firstSize + fieldHead + n * fieldSize r
 abbrev pub headIs : List ℕ → ℕ → ℕ → Bool
 headIs bs tag len = eqb (getD bs 0 0) tag && eqb (numberAt bs 1 2) len
 
--- the first field of an image: r, member count, step count
-abbrev pub headerBytes : ℕ → ℕ → ℕ → List ℕ
-headerBytes r n steps = field 1 (headerContents r n steps)
+-- the first field of an image: r, member count, step count 0
+abbrev pub headerBytes : ℕ → ℕ → List ℕ
+headerBytes r n = field 1 (headerContents r n)
 
 -- the step count that it says
 abbrev pub imageSteps : List ℕ → ℕ
-imageSteps bs = tableIn bs .steps
+imageSteps bs = numberAt bs 6 4
 
 -- identifier, pending and candidate that the member's field at the front says: its list is no part of them
 abbrev pub idIn : List ℕ → ℕ

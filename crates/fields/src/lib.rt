@@ -21,7 +21,7 @@ pub const LAST: u8 = 3;
 // The bytes before a field's contents: its tag and, in two bytes, their length.
 pub const HEAD: usize = 3;
 
-// The bytes of the first field's contents: r, member count, step count.
+// The bytes of the first field's contents: r, member count, and a step count that is 0 always.
 pub const HEADER: usize = 7;
 
 // Where the first field has r.
@@ -42,7 +42,7 @@ const ID: usize = HEAD;
 // Where it has what is pending.
 const PENDING: usize = ID + 8;
 
-// Where it has its candidate, and then its list.
+// Where it has its candidate, and then its list and its step count.
 const CANDIDATE: usize = PENDING + 1;
 
 // The bytes of the field of a record of w words: four for each. Pending takes one of its four; the head takes the others.
@@ -91,16 +91,16 @@ pub fn put_head(out: &mut [u8], at: usize, tag: u8, len: usize)
     out[at + 2] = (len % 256) as u8;
 }
 
-// The first field: r, member count, step count.
-pub fn put_header(out: &mut [u8], r: usize, n: usize, steps: u32)
+// The first field: r, member count, step count 0.
+pub fn put_header(out: &mut [u8], r: usize, n: usize)
     requires { ⌜ firstSize ≤ length (now out) ⌝ }
-    ensures { λ _. ⌜ now (out .exit) ≡ placed 0 (headerBytes r n steps) (now (out .entry)) ⌝ }
+    ensures { λ _. ⌜ now (out .exit) ≡ placed 0 (headerBytes r n) (now (out .entry)) ⌝ }
 {
     put_head(out, 0, FIRST, HEADER);
     out[R] = (r % 256) as u8;
     out[COUNT] = (n / 256 % 256) as u8;
     out[COUNT + 1] = (n % 256) as u8;
-    octets::put4(out, STEPS, steps);
+    octets::put4(out, STEPS, 0);
 }
 
 // The r that the first field says.

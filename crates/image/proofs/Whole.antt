@@ -19,7 +19,7 @@ use Rattle.laws.specs.Words.{Lengths, members-length}
 use Rattle.laws.specs.Tables.{formed-facts, formed-lists, wellFormed-facts}
 use Rattle.laws.specs.Bytes.{fieldSize, fields-length, image-length, in-length, in-lists}
 use Rattle.octets.specs.Placed.{placed}
-use Rattle.fields.specs.Fields.{firstSize, imageSize, headerBytes, imageSteps}
+use Rattle.fields.specs.Fields.{firstSize, imageSize, headerBytes}
 use Rattle.octets.proofs.Placed.{placed-then}
 
 -- what is placed at the front is laid over
@@ -40,8 +40,8 @@ module _ (ws : List ℕ) (w : wellFormed ws ≡ true) where
   image-bytes = image-length (tableOf ws) lists ∙ ap (imageSize (getD ws 0 0)) counted
 
   -- the words of the header are what the first field says
-  pub header-bytes : headerBytes (getD ws 0 0) (getD ws 1 0) (getD ws 2 0) ≡ headerField (tableOf ws)
-  header-bytes = ap (λ (n : ℕ). headerBytes (getD ws 0 0) n (getD ws 2 0)) (sym counted)
+  pub header-bytes : headerBytes (getD ws 0 0) (getD ws 1 0) ≡ headerField (tableOf ws)
+  header-bytes = ap (headerBytes (getD ws 0 0)) (sym counted)
 
   -- `write_image`: the first field, the members' fields and the last one
   pub image-written : (end : ℕ) (head out o1 o2 o3 : List ℕ) → head ≡ headerField (tableOf ws) → end ≡ firstSize + getD ws 1 0 * fieldSize (getD ws 0 0)
@@ -80,8 +80,8 @@ module _ (ws bs : List ℕ) where
 -- Reading
 
 -- the numbers that the first field says are the header
-pub header-read : (bs : List ℕ) (r n s : ℕ) → r ≡ imageR bs → n ≡ imageCount bs → s ≡ imageSteps bs → r ∷ n ∷ s ∷ [] ≡ headerOf (tableIn bs)
-header-read bs r n s er en es = rw (er, en, es, in-length (imageR bs) (imageCount bs) (drop firstSize bs))
+pub header-read : (bs : List ℕ) (r n : ℕ) → r ≡ imageR bs → n ≡ imageCount bs → r ∷ n ∷ 0 ∷ [] ≡ headerOf (tableIn bs)
+header-read bs r n er en = rw (er, en, in-length (imageR bs) (imageCount bs) (drop firstSize bs))
 
 -- `read_image`: the header and the records
 pub table-read : (bs t last header : List ℕ) → header ≡ headerOf (tableIn bs) → headerSize ≤ length t

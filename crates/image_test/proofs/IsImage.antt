@@ -8,7 +8,7 @@ use native.Mathlib.Numerals.{add-one}
 use native.Mathlib.Omega.{arith}
 use lib.Dec.{leb, ltb, eqb, leb·zero}
 use lib.ListN.{length, take, drop, take-append-drop, length-drop, length-take, drop-of-length-le}
-use borrow.Author.Tests.{eqb-true, eqb-false, eq-eqb, ne-eqb, lt-ltb, le-leb, lt-leb}
+use borrow.Author.Tests.{eqb-true, eqb-false, eq-eqb, ne-eqb, le-leb, lt-leb}
 use Rattle.model.specs.Lists.{every, same, rising, risingFrom}
 use Rattle.model.specs.Table.{spaceOf, wordLimit, Member, recordSize, recordOf, ids, formedMember, formed}
 use Rattle.model.specs.Image.{headerContents, memberContents, numberFrom, numberAt, numbersAt, field, memberField, memberFields, imageOf, fieldHead, headerLength, memberLength, fieldMember, fieldMembers, imageR, imageCount, tableIn, isImage}
@@ -136,30 +136,24 @@ module _ (w : ℕ) (all : wordLimit ≤ w) (r : ℕ) (hr : r ≤ 8) where
 -- The whole image
 
 module _ (bs : List ℕ) (h : Bytes bs) where
-  sizes-right : 1 ≤ imageR bs → imageR bs ≤ 8 → imageCount bs ≤ 256 → firstSize ≤ length bs
+  sizes-right : 1 ≤ imageR bs → imageR bs ≤ 8 → imageCount bs ≤ 256
       → formed (tableIn bs) ≡ (rising (ids (tableIn bs .members)) && every (formedMember (spaceOf (tableIn bs)) (imageR bs)) (tableIn bs .members))
   unfolding formed
-  sizes-right lo hi few l =
-      rw (
-        le-leb 1 (imageR bs) lo,
-        le-leb (imageR bs) 8 hi,
-        in-length (imageR bs) (imageCount bs) (drop firstSize bs),
-        le-leb (imageCount bs) 256 few,
-        lt-ltb (imageSteps bs) wordLimit (number-below 4 6 bs h (omega arith)),
-      )
+  sizes-right lo hi few =
+      rw (le-leb 1 (imageR bs) lo, le-leb (imageR bs) 8 hi, in-length (imageR bs) (imageCount bs) (drop firstSize bs), le-leb (imageCount bs) 256 few)
 
-  header-first : firstSize ≤ length bs → same (imageOf (tableIn bs)) bs ≡ (headIs bs 1 headerLength && same (memberFields (tableIn bs .members) ++ field 3 []) (drop firstSize bs))
-  header-first l = same-field 1 headerLength (headerContents (imageR bs) (length (tableIn bs .members)) (tableIn bs .steps))
-      (memberFields (tableIn bs .members) ++ field 3 []) bs h (omega arith) l (header-said bs h l)
+  header-first : firstSize ≤ length bs → imageSteps bs ≡ 0 → same (imageOf (tableIn bs)) bs ≡ (headIs bs 1 headerLength && same (memberFields (tableIn bs .members) ++ field 3 []) (drop firstSize bs))
+  header-first l none = same-field 1 headerLength (headerContents (imageR bs) (length (tableIn bs .members)))
+      (memberFields (tableIn bs .members) ++ field 3 []) bs h (omega arith) l (header-said bs h l none)
 
   -- bytes whose sizes are right are an image by the tests of their fields
-  pub is-image : 1 ≤ imageR bs → imageR bs ≤ 8 → imageCount bs ≤ 256 → length bs ≡ imageSize (imageR bs) (imageCount bs)
+  pub is-image : 1 ≤ imageR bs → imageR bs ≤ 8 → imageCount bs ≤ 256 → imageSteps bs ≡ 0 → length bs ≡ imageSize (imageR bs) (imageCount bs)
       → isImage bs ≡ (headIs bs 1 headerLength && fieldsRight (imageR bs) 0 (imageCount bs) (drop firstSize bs))
   unfolding isImage
-  is-image lo hi few l =
+  is-image lo hi few none l =
       let f : List ℕ = drop firstSize bs in
       let lf : length f ≡ imageCount bs * fieldSize (imageR bs) + fieldHead = rw length-drop (omega arith) in
-      ap₂ (λ (p q : Bool). p && q) (sizes-right lo hi few (omega arith)) (header-first (omega arith))
+      ap₂ (λ (p q : Bool). p && q) (sizes-right lo hi few) (header-first (omega arith) none)
       ∙ swap (rising (ids (tableIn bs .members)) && every (formedMember (spaceOf (tableIn bs)) (imageR bs)) (tableIn bs .members)) (headIs bs 1 headerLength) _
       ∙ ap (λ (q : Bool). headIs bs 1 headerLength && q) (all-fields (spaceOf (tableIn bs)) (omega (arith, space-words (tableIn bs))) (imageR bs) hi (imageCount bs) f (bytes-drop firstSize bs h) lf)
 
@@ -174,7 +168,7 @@ wrong-length bs n = go (same (imageOf (tableIn bs)) bs) refl
         ∙ ap (imageSize (imageR bs)) (in-length (imageR bs) (imageCount bs) (drop firstSize bs))))
     go false e = and-false (formed (tableIn bs))
 
--- nor are those with another r, or with more members
+-- nor are those with another r, with more members, or with a step count in the first field
 module _ (bs : List ℕ) where
   pub r-low : imageR bs < 1 → isImage bs ≡ false
   unfolding isImage formed
@@ -187,6 +181,14 @@ module _ (bs : List ℕ) where
   pub many : 256 < imageCount bs → isImage bs ≡ false
   unfolding isImage formed
   many h = simp (in-length, lt-leb (imageCount bs) 256 h, and-false)
+
+  pub counting : (imageSteps bs ≡ 0 → ⊥) → isImage bs ≡ false
+  unfolding isImage
+  counting n = go (same (imageOf (tableIn bs)) bs) refl
+    where
+      go : (b : Bool) → same (imageOf (tableIn bs)) bs ≡ b → (formed (tableIn bs) && b) ≡ false
+      go true e = absurd (n (ap imageSteps (sym (same-eq (imageOf (tableIn bs)) bs e))))
+      go false e = and-false (formed (tableIn bs))
 
 -- and where the sizes are right, the first field's head settles it, or leaves the others
 module _ (bs : List ℕ) (f : Bool) (e : isImage bs ≡ (headIs bs 1 headerLength && f)) where

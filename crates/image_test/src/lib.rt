@@ -68,6 +68,9 @@ pub fn is_image(bs: &[u8]) -> bool
     if 256 < n {
         return false;
     }
+    if fields::image_steps(bs) != 0 {
+        return false;
+    }
     let size = fields::image_size(r, n);
     if bs.len() == size {
         if fields::head_is(bs, fields::FIRST, fields::HEADER) {

@@ -78,6 +78,7 @@ fn joiner(t: &[u32], k: usize, j: u32, p: u32) -> Member
         pending: 0,
         candidate: 0,
         successors: l,
+        steps: 0,
     }
 }
 

@@ -78,6 +78,10 @@ pub words4-length : (l : List ℕ) → length (words4 l) ≡ 4 * length l
 words4-length [] = omega arith
 words4-length (x ∷ l) = omega (arith, words4-length l)
 
+words4-append : (l k : List ℕ) → words4 (l ++ k) ≡ words4 l ++ words4 k
+words4-append [] k = refl
+words4-append (x ∷ l) k = ap (λ (bs : List ℕ). bytesOf 4 x ++ bs) (words4-append l k) ∙ sym (append-assoc (bytesOf 4 x) (words4 l) (words4 k))
+
 pub numbers-length : (n : ℕ) (bs : List ℕ) → length (numbersAt n bs) ≡ n
 numbers-length zero bs = refl
 numbers-length (suc n) bs = ap suc (numbers-length n (drop 4 bs))
@@ -92,6 +96,14 @@ numbers-written (suc n) bs h e =
     let q : 4 * suc n ≡ 4 + 4 * n = omega arith in
     ap₂ (λ (a b : List ℕ). a ++ b) (said-at 4 0 bs h (omega arith)) (numbers-written n (drop 4 bs) (bytes-drop 4 bs h) (rw length-drop (omega arith))) ∙ rw q (sym (take-add 4 (4 * n) bs))
 
+-- one more is the one after the others
+numbers-last : (n : ℕ) (bs : List ℕ) → numbersAt n bs ++ (numberAt bs (4 * n) 4 ∷ []) ≡ numbersAt (suc n) bs
+numbers-last zero bs = refl
+numbers-last (suc n) bs =
+    let q : 4 * suc n ≡ 4 + 4 * n = omega arith in
+    ap (λ (l : List ℕ). numberAt bs 0 4 ∷ l) (ap (λ (k : ℕ). numbersAt n (drop 4 bs) ++ (numberAt bs k 4 ∷ [])) q
+    ∙ ap (λ (l : List ℕ). numbersAt n (drop 4 bs) ++ (numberFrom 0 (take 4 l) ∷ [])) (sym (drop-drop (4 * n) 4 bs)) ∙ numbers-last n (drop 4 bs))
+
 numbers-part : (n k : ℕ) (bs : List ℕ) → 4 * n ≤ k → numbersAt n (take k bs) ≡ numbersAt n bs
 numbers-part zero k bs h = refl
 numbers-part (suc n) k bs h = ap₂ (λ (z : ℕ) (l : List ℕ). z ∷ l) (number-part 0 4 k bs (omega arith)) (ap (numbersAt n) (drop-take 4 k bs) ∙ numbers-part n (k - 4) (drop 4 bs) (omega arith))
@@ -103,7 +115,7 @@ abbrev pub fieldSize : ℕ → ℕ
 fieldSize r = fieldHead + memberLength r
 
 pub contents-length : (r : ℕ) (m : Member) → length (m .successors) ≡ r → length (memberContents m) ≡ memberLength r
-contents-length r m e = omega (arith, words4-length (m .successors))
+contents-length r m e = omega (arith, words4-length (m .successors ++ (m .steps ∷ [])), length-append (m .successors) (m .steps ∷ []))
 
 pub field-length : (r : ℕ) (m : Member) → length (m .successors) ≡ r → length (memberField m) ≡ fieldSize r
 field-length r m e = omega (arith, contents-length r m e)
@@ -115,10 +127,23 @@ contents-read w r m rest h f = λ i. record {
   pending = bytes-say 1 (m .pending) (omega (arith, f .pending-bit)) i;
   candidate = bytes-say 4 (m .candidate) (omega (arith, f .candidate-small)) i;
   successors = list i;
+  steps = count i;
 }
   where
-    list : numbersAt r (words4 (m .successors) ++ rest) ≡ m .successors
-    list = ap (λ (k : ℕ). numbersAt k (words4 (m .successors) ++ rest)) (sym (f .list-length)) ∙ numbers-read (m .successors) rest (λ e i. omega (arith, f .entries-small e i))
+    -- the bytes from the list on
+    last : List ℕ
+    last = bytesOf 4 (m .steps) ++ rest
+
+    apart : words4 (m .successors ++ (m .steps ∷ [])) ++ rest ≡ words4 (m .successors) ++ last
+    apart = ap (λ (l : List ℕ). l ++ rest) (words4-append (m .successors) (m .steps ∷ [])) ∙ append-assoc (words4 (m .successors)) (bytesOf 4 (m .steps)) rest
+
+    list : numbersAt r (words4 (m .successors ++ (m .steps ∷ [])) ++ rest) ≡ m .successors
+    list = ap (numbersAt r) apart ∙ ap (λ (k : ℕ). numbersAt k (words4 (m .successors) ++ last)) (sym (f .list-length))
+        ∙ numbers-read (m .successors) last (λ e i. omega (arith, f .entries-small e i))
+
+    count : numberAt (words4 (m .successors ++ (m .steps ∷ [])) ++ rest) (4 * r) 4 ≡ m .steps
+    count = ap (λ (l : List ℕ). numberFrom 0 (take 4 l))
+        (ap (drop (4 * r)) apart ∙ drop-at (words4 (m .successors)) last (4 * r) (omega (arith, words4-length (m .successors), f .list-length))) ∙ bytes-say 4 (m .steps) (f .steps-small)
 
 contents-part : (r k : ℕ) (bs : List ℕ) → memberLength r ≤ k → fieldMember r (take k bs) ≡ fieldMember r bs
 contents-part r k bs h = λ i. record {
@@ -127,10 +152,14 @@ contents-part r k bs h = λ i. record {
   pending = number-part 8 1 k bs (omega arith) i;
   candidate = number-part 9 4 k bs (omega arith) i;
   successors = list i;
+  steps = count i;
 }
   where
     list : numbersAt r (drop 13 (take k bs)) ≡ numbersAt r (drop 13 bs)
     list = ap (numbersAt r) (drop-take 13 k bs) ∙ numbers-part r (k - 13) (drop 13 bs) (omega arith)
+
+    count : numberAt (drop 13 (take k bs)) (4 * r) 4 ≡ numberAt (drop 13 bs) (4 * r) 4
+    count = ap (λ (l : List ℕ). numberAt l (4 * r) 4) (drop-take 13 k bs) ∙ number-part (4 * r) 4 (k - 13) (drop 13 bs) (omega arith)
 
 -- the part of its bytes says the same member
 pub field-part : (r : ℕ) (bs : List ℕ) → fieldMember r (drop fieldHead (take (fieldSize r) bs)) ≡ fieldMember r (drop fieldHead bs)
@@ -142,17 +171,17 @@ cut at n k l a b p q = rw (p, q, ← drop-drop n at l) (sym (take-add n k (drop 
 
 pub contents-written : (r : ℕ) (bs : List ℕ) → Bytes bs → memberLength r ≤ length bs → memberContents (fieldMember r bs) ≡ take (memberLength r) bs
 contents-written r bs h l =
-    let list = numbers-written r (drop 13 bs) (bytes-drop 13 bs h) (rw length-drop (omega arith)) in
-    let c9 = cut 9 4 (4 * r) bs (bytesOf 4 (numberAt bs 9 4)) _ (said-at 4 9 bs h (omega arith)) list in
-    let c8 = cut 8 1 (4 + 4 * r) bs (bytesOf 1 (numberAt bs 8 1)) _ (said-at 1 8 bs h (omega arith)) c9 in
-    let c4 = cut 4 4 (1 + (4 + 4 * r)) bs (bytesOf 4 (numberAt bs 4 4)) _ (said-at 4 4 bs h (omega arith)) c8 in
-    let c0 = cut 0 4 (4 + (1 + (4 + 4 * r))) bs (bytesOf 4 (numberAt bs 0 4)) _ (said-at 4 0 bs h (omega arith)) c4 in
-    let q : 4 + (4 + (1 + (4 + 4 * r))) ≡ memberLength r = omega arith in
+    let list = ap words4 (numbers-last r (drop 13 bs)) ∙ numbers-written (suc r) (drop 13 bs) (bytes-drop 13 bs h) (rw length-drop (omega arith)) in
+    let c9 = cut 9 4 (4 * suc r) bs (bytesOf 4 (numberAt bs 9 4)) _ (said-at 4 9 bs h (omega arith)) list in
+    let c8 = cut 8 1 (4 + 4 * suc r) bs (bytesOf 1 (numberAt bs 8 1)) _ (said-at 1 8 bs h (omega arith)) c9 in
+    let c4 = cut 4 4 (1 + (4 + 4 * suc r)) bs (bytesOf 4 (numberAt bs 4 4)) _ (said-at 4 4 bs h (omega arith)) c8 in
+    let c0 = cut 0 4 (4 + (1 + (4 + 4 * suc r))) bs (bytesOf 4 (numberAt bs 0 4)) _ (said-at 4 0 bs h (omega arith)) c4 in
+    let q : 4 + (4 + (1 + (4 + 4 * suc r))) ≡ memberLength r = omega arith in
     c0 ∙ ap (λ (n : ℕ). take n bs) q
 
 -- the words that a field's contents say after pending
 pub words-said : (r : ℕ) (bs : List ℕ) → numbersAt (recordSize r - 3) (drop 9 bs) ≡ drop 3 (recordOf (fieldMember r bs))
-words-said r bs = let q : recordSize r - 3 ≡ suc r = omega arith in rw q (ap (λ (l : List ℕ). numberAt bs 9 4 ∷ numbersAt r l) (drop-drop 4 9 bs))
+words-said r bs = let q : recordSize r - 3 ≡ suc (suc r) = omega arith in rw q (ap (λ (l : List ℕ). numberAt bs 9 4 ∷ l) (ap (numbersAt (suc r)) (drop-drop 4 9 bs) ∙ sym (numbers-last r (drop 13 bs))))
 
 -- Members and their fields
 
@@ -180,18 +209,18 @@ fields-read w r (m ∷ ms) rest k h =
 
 -- A table and its image
 
--- the bytes of the first field say its contents
-pub header-said : (bs : List ℕ) → Bytes bs → fieldHead + headerLength ≤ length bs
-    → headerContents (tableIn bs .r) (length (tableIn bs .members)) (tableIn bs .steps) ≡ take headerLength (drop fieldHead bs)
-header-said bs h l =
-    ap (λ (n : ℕ). headerContents (imageR bs) n (tableIn bs .steps)) (in-length (imageR bs) (imageCount bs) (drop (fieldHead + headerLength) bs))
-    ∙ cut 3 1 6 bs _ _ (said-at 1 3 bs h (omega arith)) (cut 4 2 4 bs _ _ (said-at 2 4 bs h (omega arith)) (said-at 4 6 bs h (omega arith)))
+-- the bytes of the first field say its contents, where its step count is 0
+pub header-said : (bs : List ℕ) → Bytes bs → fieldHead + headerLength ≤ length bs → numberAt bs 6 4 ≡ 0
+    → headerContents (tableIn bs .r) (length (tableIn bs .members)) ≡ take headerLength (drop fieldHead bs)
+header-said bs h l z =
+    ap (headerContents (imageR bs)) (in-length (imageR bs) (imageCount bs) (drop (fieldHead + headerLength) bs))
+    ∙ cut 3 1 6 bs _ _ (said-at 1 3 bs h (omega arith)) (cut 4 2 4 bs _ _ (said-at 2 4 bs h (omega arith)) (ap (bytesOf 4) (sym z) ∙ said-at 4 6 bs h (omega arith)))
 
 pub image-length : (T : Table) → Lengths (T .r) (T .members) → length (imageOf T) ≡ fieldHead + headerLength + fieldHead + length (T .members) * fieldSize (T .r)
 image-length T h = omega (arith, length-append (memberFields (T .members)) (field 3 []), fields-length (T .r) (T .members) h)
 
 pub image-read : (T : Table) → Formed T → tableIn (imageOf T) ≡ T
-image-read T f = λ i. record { r = sameR i; steps = bytes-say 4 (T .steps) (f .steps-small) i; members = sameMembers i }
+image-read T f = λ i. record { r = sameR i; members = sameMembers i }
   where
     sameR : numberFrom 0 (bytesOf 1 (T .r)) ≡ T .r
     sameR = bytes-say 1 (T .r) (omega (arith, f .r-high))

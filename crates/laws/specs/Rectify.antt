@@ -14,14 +14,15 @@ pub record SameBut (u v : Member) : Type 0 where
   pub pending : u .pending ≡ v .pending
   pub candidate : u .candidate ≡ v .candidate
   pub list : u .successors ≡ v .successors
+  pub steps : u .steps ≡ v .steps
 
 module _ (ms : List Member) (q : ℕ) (v : Member) where
   pub rectify-same : SameBut (rectifyIn ms q v) v
   rectify-same = go (renews (live ms (v .predecessor)) q v)
     where
       go : (b : Bool) → SameBut (if b then withPredecessor q v else v) v
-      go true = record { id = refl; pending = refl; candidate = refl; list = refl }
-      go false = record { id = refl; pending = refl; candidate = refl; list = refl }
+      go true = record { id = refl; pending = refl; candidate = refl; list = refl; steps = refl }
+      go false = record { id = refl; pending = refl; candidate = refl; list = refl; steps = refl }
 
   -- and nothing at all where the rule does not hold
   pub rectify-none : renews (live ms (v .predecessor)) q v ≡ false → v ≡ rectifyIn ms q v

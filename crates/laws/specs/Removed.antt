@@ -14,7 +14,7 @@ use Rattle.model.specs.Table.{Member, Table, recordSize, size, ids}
 use Rattle.model.specs.Ring.{named, skips, principal, hasLive}
 use Rattle.model.specs.Steps.{isNamed, staying, without, withoutThose}
 use Rattle.model.specs.Refusals.{cutsOff, tooFewPrincipals}
-use Rattle.laws.specs.Lists.{In, here, there, in-cons, in-nil, every-in, in-every, Rising, above-in, above-rising, in-above, in-ids, found}
+use Rattle.laws.specs.Lists.{In, here, there, in-cons, in-nil, every-in, in-every, NoDup, Rising, above-in, above-rising, in-above, in-ids, named-in, found}
 use Rattle.laws.specs.Tables.{Formed, Sound, members-formed}
 
 module _ (gone : Member → Bool) where
@@ -38,6 +38,12 @@ module _ (gone : Member → Bool) where
 
   pub staying-ids : (x : ℕ) (ms : List Member) → In x (ids (staying gone ms)) → In x (ids ms)
   staying-ids x ms i = let w = found (staying gone ms) i in (rw (w .1) at (in-ids (staying-from (named (staying gone ms) x) ms (w .0))))
+
+  -- who stays keeps its record
+  pub staying-named : (x : ℕ) (ms : List Member) → NoDup (ids ms) → In x (ids (staying gone ms)) → named (staying gone ms) x ≡ named ms x
+  staying-named x ms nd i =
+      let w = found (staying gone ms) i in
+      sym (named-in ms nd (staying-from (named (staying gone ms) x) ms (w .0))) ∙ ap (named ms) (w .1)
 
   -- whom none of the members skips, none of those that stay does
   pub staying-principal : (x : ℕ) (ms : List Member) → principal ms x ≡ true → principal (staying gone ms) x ≡ true

@@ -83,16 +83,19 @@ module _ (w : ℕ) (ms : List Member) (v : Member) where
       go false p b eb true l false e = settles p l e
       go false p b eb false l d ed = drops p l
 
--- whichever case: a step changes neither identifier nor predecessor
-case-id : {w : ℕ} {ms : List Member} {v : Member} {l : List ℕ} {u : Member} → StepCase w ms v l u → (u .id ≡ v .id) × (u .predecessor ≡ v .predecessor)
-case-id (takes p l) = (refl, refl)
-case-id (clears p l) = (refl, refl)
-case-id (drops p l) = (refl, refl)
-case-id (looks p l e) = (refl, refl)
-case-id (settles p l e) = (refl, refl)
+-- whichever case: a step changes neither identifier nor predecessor nor step count
+case-id : {w : ℕ} {ms : List Member} {v : Member} {l : List ℕ} {u : Member} → StepCase w ms v l u → (u .id ≡ v .id) × (u .predecessor ≡ v .predecessor) × (u .steps ≡ v .steps)
+case-id (takes p l) = (refl, refl, refl)
+case-id (clears p l) = (refl, refl, refl)
+case-id (drops p l) = (refl, refl, refl)
+case-id (looks p l e) = (refl, refl, refl)
+case-id (settles p l e) = (refl, refl, refl)
 
 pub same-id : (ms : List Member) (v : Member) (w : ℕ) → stabilize w ms v .id ≡ v .id
 same-id ms v w = case-id (step-case w ms v) .0
 
 pub same-predecessor : (ms : List Member) (v : Member) (w : ℕ) → stabilize w ms v .predecessor ≡ v .predecessor
 same-predecessor ms v w = case-id (step-case w ms v) .1
+
+pub same-steps : (ms : List Member) (v : Member) (w : ℕ) → stabilize w ms v .steps ≡ v .steps
+same-steps ms v w = case-id (step-case w ms v) .2

@@ -8,13 +8,13 @@ use lib.Dec.{ltb, eqb}
 use lib.ListN.{length}
 use borrow.Author.Tests.{ltb-true, leb-true, eqb-true, lt-ltb, le-leb, eq-eqb, ne-eqb}
 use Rattle.model.specs.Identifier.{space}
-use Rattle.model.specs.Table.{Member, idle, Table, tableWith, spaceOf, wordLimit, headerSize, recordSize, size, tableOf, ids, formedMember, formed, wellFormed}
+use Rattle.model.specs.Table.{Member, idle, Table, tableWith, spaceOf, wordLimit, headerSize, headerOf, recordSize, size, tableOf, ids, formedMember, formed, wellFormed}
 use Rattle.model.specs.Ring.{hasLive, principals, candidateInside, sound, nextDown, nextUps, idealMember, ideal}
 use Rattle.model.specs.Steps.{withSuccessors, withPredecessor, withPending, withMembers, withSteps}
 use Rattle.model.specs.Calls.{written, writtenFreed}
 use Rattle.model.specs.Lists.{same}
 use Rattle.laws.specs.Lists.{In, here, there, and-true, true-and, same-eq, same-refl, every-in, in-every, Rising, rising-true, true-rising}
-use Rattle.laws.specs.Words.{Lengths, written-table, writtenFreed-table, written-length, writtenFreed-length}
+use Rattle.laws.specs.Words.{Lengths, OwnHeader, header-written, header-steps, written-table, writtenFreed-table, written-length, writtenFreed-length}
 
 -- a record is right
 pub record FormedMember (w r : ℕ) (m : Member) : Type 0 where
@@ -25,8 +25,9 @@ pub record FormedMember (w r : ℕ) (m : Member) : Type 0 where
   pub predecessor-small : m .predecessor < w
   pub candidate-small : m .candidate < w
   pub entries-small : (e : ℕ) → In e (m .successors) → e < w
+  pub steps-small : m .steps < wordLimit
 
--- with nothing pending; and with another list, another candidate, another predecessor
+-- with nothing pending; and with another list, another candidate, another predecessor, another step count
 pub idle-formed : (w r x p : ℕ) (l : List ℕ) → x < w → p < w → length l ≡ r → ((e : ℕ) → In e l → e < w) → FormedMember w r (idle x p l)
 idle-formed w r x p l hx hp n h = record {
   pending-bit = omega arith;
@@ -36,6 +37,7 @@ idle-formed w r x p l hx hp n h = record {
   predecessor-small = hp;
   candidate-small = omega arith;
   entries-small = h;
+  steps-small = omega arith;
 }
 
 module _ {w r : ℕ} {m : Member} (f : FormedMember w r m) where
@@ -48,6 +50,7 @@ module _ {w r : ℕ} {m : Member} (f : FormedMember w r m) where
     predecessor-small = f .predecessor-small;
     candidate-small = f .candidate-small;
     entries-small = h;
+    steps-small = f .steps-small;
   }
 
   pub pending-formed : (b c : ℕ) → b ≤ 1 → (b ≡ 0 → c ≡ 0) → c < w → FormedMember w r (withPending b c m)
@@ -59,6 +62,7 @@ module _ {w r : ℕ} {m : Member} (f : FormedMember w r m) where
     predecessor-small = f .predecessor-small;
     candidate-small = h;
     entries-small = f .entries-small;
+    steps-small = f .steps-small;
   }
 
   pub predecessor-formed : (p : ℕ) → p < w → FormedMember w r (withPredecessor p m)
@@ -70,6 +74,19 @@ module _ {w r : ℕ} {m : Member} (f : FormedMember w r m) where
     predecessor-small = h;
     candidate-small = f .candidate-small;
     entries-small = f .entries-small;
+    steps-small = f .steps-small;
+  }
+
+  pub steps-formed : (s : ℕ) → s < wordLimit → FormedMember w r (withSteps s m)
+  steps-formed s h = record {
+    pending-bit = f .pending-bit;
+    no-candidate = f .no-candidate;
+    list-length = f .list-length;
+    id-small = f .id-small;
+    predecessor-small = f .predecessor-small;
+    candidate-small = f .candidate-small;
+    entries-small = f .entries-small;
+    steps-small = h;
   }
 
 -- a table is well-formed
@@ -77,24 +94,21 @@ pub record Formed (T : Table) : Type 0 where
   pub r-low : 1 ≤ T .r
   pub r-high : T .r ≤ 8
   pub count-high : length (T .members) ≤ 256
-  pub steps-small : T .steps < wordLimit
   pub ids-rising : Rising (ids (T .members))
   pub each : (m : Member) → In m (T .members) → FormedMember (spaceOf T) (T .r) m
 
--- of r and members alone; with other members; with another step count
+-- of r and members alone; with other members
 pub table-formed : (r : ℕ) (ms : List Member) → 1 ≤ r → r ≤ 8 → length ms ≤ 256 → Rising (ids ms) → ((m : Member) → In m ms → FormedMember (spaceOf (tableWith r ms)) r m) → Formed (tableWith r ms)
-table-formed r ms low high few rise each = record { r-low = low; r-high = high; count-high = few; steps-small = omega arith; ids-rising = rise; each = each }
+table-formed r ms low high few rise each = record { r-low = low; r-high = high; count-high = few; ids-rising = rise; each = each }
 
 module _ {T : Table} (f : Formed T) where
   pub members-formed : (ns : List Member) → length ns ≤ 256 → Rising (ids ns) → ((m : Member) → In m ns → FormedMember (spaceOf T) (T .r) m) → Formed (withMembers ns T)
-  members-formed ns few rise each = record { r-low = f .r-low; r-high = f .r-high; count-high = few; steps-small = f .steps-small; ids-rising = rise; each = each }
-
-  pub steps-formed : (s : ℕ) → s < wordLimit → Formed (withSteps s T)
-  steps-formed s h = record { r-low = f .r-low; r-high = f .r-high; count-high = f .count-high; steps-small = h; ids-rising = f .ids-rising; each = f .each }
+  members-formed ns few rise each = record { r-low = f .r-low; r-high = f .r-high; count-high = few; ids-rising = rise; each = each }
 
 -- a slice holds a well-formed table
 pub record WellFormed (ws : List ℕ) : Type 0 where
   pub header : headerSize ≤ length ws
+  pub own-header : OwnHeader ws
   pub fits : size (tableOf ws) ≤ length ws
   pub table : Formed (tableOf ws)
 
@@ -136,21 +150,24 @@ formed-member w r m h =
     let a = and-true _ _ h in
     let b = and-true _ _ (a .0) in
     let c = and-true _ _ (b .0) in
+    let d = and-true _ _ (c .0) in
     let small : (e : ℕ) → In e (m .id ∷ m .predecessor ∷ m .candidate ∷ m .successors) → e < w = λ e i. ltb-true e w (every-in (λ x. ltb x w) (a .1) i) in
     record {
-      pending-bit = leb-true _ _ (c .0);
-      no-candidate = no-candidate-of (m .pending) (m .candidate) (c .1);
-      list-length = eqb-true _ _ (b .1);
+      pending-bit = leb-true _ _ (d .0);
+      no-candidate = no-candidate-of (m .pending) (m .candidate) (d .1);
+      list-length = eqb-true _ _ (c .1);
       id-small = small _ (here refl);
       predecessor-small = small _ (there (here refl));
       candidate-small = small _ (there (there (here refl)));
       entries-small = λ e i. small e (there (there (there i)));
+      steps-small = ltb-true _ _ (b .1);
     }
 
 pub member-formed : (w r : ℕ) (m : Member) → FormedMember w r m → formedMember w r m ≡ true
 unfolding formedMember
 member-formed w r m f =
-    true-and (true-and (true-and (le-leb _ _ (f .pending-bit)) (of-no-candidate (m .pending) (m .candidate) (f .pending-bit) (f .no-candidate))) (eq-eqb _ _ (f .list-length)))
+    true-and (true-and (true-and (true-and (le-leb _ _ (f .pending-bit)) (of-no-candidate (m .pending) (m .candidate) (f .pending-bit) (f .no-candidate))) (eq-eqb _ _ (f .list-length)))
+    (lt-ltb _ _ (f .steps-small)))
     (true-and (lt-ltb _ _ (f .id-small)) (true-and (lt-ltb _ _ (f .predecessor-small))
     (true-and (lt-ltb _ _ (f .candidate-small)) (in-every (λ x. ltb x w) (m .successors) (λ e i. lt-ltb e w (f .entries-small e i))))))
 
@@ -161,12 +178,10 @@ formed-facts T h =
     let b = and-true _ _ (a .0) in
     let c = and-true _ _ (b .0) in
     let d = and-true _ _ (c .0) in
-    let e = and-true _ _ (d .0) in
     record {
-      r-low = leb-true _ _ (e .0);
-      r-high = leb-true _ _ (e .1);
-      count-high = leb-true _ _ (d .1);
-      steps-small = ltb-true _ _ (c .1);
+      r-low = leb-true _ _ (d .0);
+      r-high = leb-true _ _ (d .1);
+      count-high = leb-true _ _ (c .1);
       ids-rising = rising-true (ids (T .members)) (b .1);
       each = λ m i. formed-member (spaceOf T) (T .r) m (every-in (formedMember (spaceOf T) (T .r)) (a .1) i);
     }
@@ -174,8 +189,7 @@ formed-facts T h =
 pub facts-formed : (T : Table) → Formed T → formed T ≡ true
 unfolding formed
 facts-formed T f =
-    true-and (true-and (true-and (true-and (true-and (le-leb _ _ (f .r-low)) (le-leb _ _ (f .r-high))) (le-leb _ _ (f .count-high)))
-    (lt-ltb _ _ (f .steps-small))) (true-rising (ids (T .members)) (f .ids-rising)))
+    true-and (true-and (true-and (true-and (le-leb _ _ (f .r-low)) (le-leb _ _ (f .r-high))) (le-leb _ _ (f .count-high))) (true-rising (ids (T .members)) (f .ids-rising)))
     (in-every (formedMember (spaceOf T) (T .r)) (T .members) (λ m i. member-formed (spaceOf T) (T .r) m (f .each m i)))
 
 pub wellFormed-facts : (ws : List ℕ) → wellFormed ws ≡ true → WellFormed ws
@@ -183,11 +197,13 @@ unfolding wellFormed
 wellFormed-facts ws h =
     let a = and-true _ _ h in
     let b = and-true _ _ (a .0) in
-    record { header = leb-true _ _ (b .0); fits = leb-true _ _ (b .1); table = formed-facts (tableOf ws) (a .1) }
+    let c = and-true _ _ (b .0) in
+    let h = leb-true _ _ (c .0) in
+    record { header = h; own-header = header-written ws h (eqb-true _ _ (b .1)); fits = leb-true _ _ (c .1); table = formed-facts (tableOf ws) (a .1) }
 
 pub facts-wellFormed : (ws : List ℕ) → WellFormed ws → wellFormed ws ≡ true
 unfolding wellFormed
-facts-wellFormed ws f = true-and (true-and (le-leb _ _ (f .header)) (le-leb _ _ (f .fits))) (facts-formed (tableOf ws) (f .table))
+facts-wellFormed ws f = true-and (true-and (true-and (le-leb _ _ (f .header)) (le-leb _ _ (f .fits))) (eq-eqb _ _ (header-steps ws (f .own-header)))) (facts-formed (tableOf ws) (f .table))
 
 pub sound-facts : (T : Table) → sound T ≡ true → Sound T
 unfolding sound
@@ -218,8 +234,8 @@ facts-ideal T d = in-every (idealMember (T .r) (ids (T .members))) (T .members) 
 
 -- A slice that holds a well-formed table, no shorter than it
 
-pub holds-formed : (T : Table) (ws : List ℕ) → tableOf ws ≡ T → Formed T → size T ≤ length ws → WellFormed ws
-holds-formed T ws e f h = record { header = omega arith; fits = omega (arith, ap size e); table = rw e f }
+pub holds-formed : (T : Table) (ws : List ℕ) → tableOf ws ≡ T → OwnHeader ws → Formed T → size T ≤ length ws → WellFormed ws
+holds-formed T ws e o f h = record { header = omega arith; own-header = o; fits = omega (arith, ap size e); table = rw e f }
 
 pub formed-lists : (T : Table) → Formed T → Lengths (T .r) (T .members)
 formed-lists T f m i = f .each m i .list-length
@@ -227,9 +243,9 @@ formed-lists T f m i = f .each m i .list-length
 pub written-formed : (T : Table) (ws : List ℕ) → Formed T → size T ≤ length ws → WellFormed (written T ws)
 written-formed T ws f h =
     let lists = formed-lists T f in
-    holds-formed T (written T ws) (written-table T ws lists) f (omega (arith, written-length T ws lists h))
+    holds-formed T (written T ws) (written-table T ws lists) (ap headerOf (written-table T ws lists)) f (omega (arith, written-length T ws lists h))
 
 pub writtenFreed-formed : (T : Table) (ws : List ℕ) → Formed T → size T + recordSize (T .r) ≤ length ws → WellFormed (writtenFreed T ws)
 writtenFreed-formed T ws f h =
     let lists = formed-lists T f in
-    holds-formed T (writtenFreed T ws) (writtenFreed-table T ws lists) f (omega (arith, writtenFreed-length T ws lists h))
+    holds-formed T (writtenFreed T ws) (writtenFreed-table T ws lists) (ap headerOf (writtenFreed-table T ws lists)) f (omega (arith, writtenFreed-length T ws lists h))

@@ -5,12 +5,12 @@ use mathlib.Core.List.{List, [], _∷_, _++_, append-assoc, append-nil}
 use Prim.Native.Nat.{ℕ, zero, suc, _+_, _*_, _≤_}
 use native.Mathlib.Omega.{arith}
 use lib.ListN.{length, getD, take, drop, set, replicate, take-append-drop, length-append, length-take, length-drop, length-replicate}
-use lib.Seq.{length-take-le, take-at, drop-at, take-add}
+use lib.Seq.{length-take-le, take-at, drop-at, take-add, take-suc, getD-at, getD-take}
 use Rattle.model.specs.Lists.{overlay}
 use Rattle.model.specs.Table.{Member, Table, headerSize, headerOf, recordSize, size, memberOf, recordOf, membersOf, recordsOf, tableOf, wordsOf}
 use Rattle.model.specs.Steps.{withMembers}
 use Rattle.model.specs.Calls.{written, writtenFreed}
-use Rattle.laws.specs.Lists.{In, here, there, in-cons}
+use Rattle.laws.specs.Lists.{In, here, there, in-cons, in-left, in-right}
 
 -- each member's list has r entries
 abbrev pub Lengths : ℕ → List Member → Type 0
@@ -19,10 +19,14 @@ Lengths r ms = (m : Member) → In m ms → length (m .successors) ≡ r
 -- Reading what was written
 
 pub record-length : (r : ℕ) (m : Member) → length (m .successors) ≡ r → length (recordOf m) ≡ recordSize r
-record-length r m e = omega arith
+record-length r m e = omega (arith, length-append (m .successors) (m .steps ∷ []))
 
 pub record-read : (r : ℕ) (m : Member) (rest : List ℕ) → length (m .successors) ≡ r → memberOf r (recordOf m ++ rest) ≡ m
-record-read r m rest e = λ i. record { id = m .id; predecessor = m .predecessor; pending = m .pending; candidate = m .candidate; successors = take-at (m .successors) rest r e i }
+record-read r m rest e =
+    let apart : (m .successors ++ (m .steps ∷ [])) ++ rest ≡ m .successors ++ (m .steps ∷ rest) = append-assoc (m .successors) (m .steps ∷ []) rest in
+    let list : take r ((m .successors ++ (m .steps ∷ [])) ++ rest) ≡ m .successors = ap (take r) apart ∙ take-at (m .successors) (m .steps ∷ rest) r e in
+    let count : getD ((m .successors ++ (m .steps ∷ [])) ++ rest) r 0 ≡ m .steps = ap (λ (l : List ℕ). getD l r 0) apart ∙ getD-at (m .successors) (m .steps) rest 0 r e in
+    λ i. record { id = m .id; predecessor = m .predecessor; pending = m .pending; candidate = m .candidate; successors = list i; steps = count i }
 
 -- what a slice's first words say is a member with r entries
 pub record-list : (r : ℕ) (ws : List ℕ) → recordSize r ≤ length ws → length (memberOf r ws .successors) ≡ r
@@ -30,7 +34,11 @@ record-list r ws h = simp (length-take, length-drop) (omega arith)
 
 -- the identifiers of a member are words of its record
 pub record-has : {x : ℕ} (m : Member) → In x (m .id ∷ m .predecessor ∷ m .candidate ∷ m .successors) → In x (recordOf m)
-record-has m i = ⊎-elim here (λ j. there (⊎-elim here (λ k. there (there k)) (in-cons j))) (in-cons i)
+record-has m i = ⊎-elim here (λ j. there (⊎-elim here (λ k. there (there (⊎-elim here (λ n. there (in-left (m .steps ∷ []) n)) (in-cons k)))) (in-cons j))) (in-cons i)
+
+-- and so is its step count
+pub record-steps : (m : Member) → In (m .steps) (recordOf m)
+record-steps m = there (there (there (there (in-right (m .successors) (here refl)))))
 
 pub records-read : (r : ℕ) (ms : List Member) (rest : List ℕ) → Lengths r ms → membersOf r (length ms) (recordsOf ms ++ rest) ≡ ms
 records-read r [] rest h = refl
@@ -45,7 +53,7 @@ records-read r (m ∷ ms) rest h =
     ap₂ (λ (a : Member) (k : List Member). a ∷ k) one others
 
 pub words-read : (T : Table) (rest : List ℕ) → Lengths (T .r) (T .members) → tableOf (wordsOf T ++ rest) ≡ T
-words-read T rest h = λ i. record { r = T .r; steps = T .steps; members = records-read (T .r) (T .members) rest h i }
+words-read T rest h = λ i. record { r = T .r; members = records-read (T .r) (T .members) rest h i }
 
 -- Sizes
 
@@ -91,7 +99,7 @@ record-written r [] h = absurd (omega arith)
 record-written r (a ∷ []) h = absurd (omega arith)
 record-written r (a ∷ b ∷ []) h = absurd (omega arith)
 record-written r (a ∷ b ∷ c ∷ []) h = absurd (omega arith)
-record-written r (a ∷ b ∷ c ∷ d ∷ l) h = let q : recordSize r ≡ suc (suc (suc (suc r))) = omega arith in rw q
+record-written r (a ∷ b ∷ c ∷ d ∷ l) h = let q : recordSize r ≡ suc (suc (suc (suc (suc r)))) = omega arith in rw q (ap (λ (k : List ℕ). a ∷ b ∷ c ∷ d ∷ k) (sym (take-suc l r 0 (omega arith))))
 
 -- so the part of a record's words says the same member
 pub member-part : (r w : ℕ) (ws : List ℕ) → w ≡ recordSize r → w ≤ length ws → memberOf r (take w ws) ≡ memberOf r ws
@@ -107,16 +115,24 @@ records-written r (suc n) ws h =
     ap₂ (λ (a b : List ℕ). a ++ b) (record-written r ws (omega arith)) (records-written r n (drop (recordSize r) ws) (rw length-drop (omega arith)))
     ∙ rw q (sym (take-add (recordSize r) (n * recordSize r) ws))
 
--- the header of a slice is its first words
-pub header-written : (ws : List ℕ) → headerSize ≤ length ws → headerOf (tableOf ws) ≡ take headerSize ws
-header-written [] h = absurd (omega arith)
-header-written (a ∷ []) h = absurd (omega arith)
-header-written (a ∷ b ∷ []) h = absurd (omega arith)
-header-written (a ∷ b ∷ c ∷ l) h = ap (λ (n : ℕ). a ∷ n ∷ c ∷ []) (members-length a b l)
+-- the first words of a slice are its table's header
+abbrev pub OwnHeader : List ℕ → Type 0
+OwnHeader ws = headerOf (tableOf ws) ≡ take headerSize ws
 
--- so its first words, up to any after the header, are the header and the first words of the records
-pub header-take : (ws : List ℕ) (n : ℕ) → headerSize ≤ length ws → take (headerSize + n) ws ≡ headerOf (tableOf ws) ++ take n (drop headerSize ws)
-header-take ws n h = take-add headerSize n ws ∙ ap (λ (k : List ℕ). k ++ take n (drop headerSize ws)) (sym (header-written ws h))
+-- so they are where the step count is 0
+pub header-written : (ws : List ℕ) → headerSize ≤ length ws → getD ws 2 0 ≡ 0 → OwnHeader ws
+header-written [] h z = absurd (omega arith)
+header-written (a ∷ []) h z = absurd (omega arith)
+header-written (a ∷ b ∷ []) h z = absurd (omega arith)
+header-written (a ∷ b ∷ c ∷ l) h z = ap₂ (λ (n s : ℕ). a ∷ n ∷ s ∷ []) (members-length a b l) (sym z)
+
+-- and nowhere else
+pub header-steps : (ws : List ℕ) → OwnHeader ws → getD ws 2 0 ≡ 0
+header-steps ws e = sym (getD-take headerSize ws 2 0 (omega arith)) ∙ sym (ap (λ (l : List ℕ). getD l 2 0) e)
+
+-- then the first words, up to any after the header, are the header and the first words of the records
+pub header-take : (ws : List ℕ) (n : ℕ) → OwnHeader ws → take (headerSize + n) ws ≡ headerOf (tableOf ws) ++ take n (drop headerSize ws)
+header-take ws n h = take-add headerSize n ws ∙ ap (λ (k : List ℕ). k ++ take n (drop headerSize ws)) (sym h)
 
 -- the header of a table with other members: the count alone is another
 pub header-counted : (T : Table) (ms : List Member) (n : ℕ) (rest : List ℕ) → n ≡ length ms → set (headerOf T ++ rest) 1 n ≡ headerOf (withMembers ms T) ++ rest
@@ -126,18 +142,18 @@ pub header-same : (T : Table) (ms : List Member) → length ms ≡ length (T .me
 header-same T ms e = rw e
 
 -- a slice that is no shorter than its table: the words of its table are its first, and writing them changes nothing
-pub words-written : (ws : List ℕ) → headerSize ≤ length ws → size (tableOf ws) ≤ length ws → wordsOf (tableOf ws) ≡ take (size (tableOf ws)) ws
+pub words-written : (ws : List ℕ) → OwnHeader ws → size (tableOf ws) ≤ length ws → wordsOf (tableOf ws) ≡ take (size (tableOf ws)) ws
 words-written ws h le =
     let r : ℕ = getD ws 0 0 in
     let n : ℕ = getD ws 1 0 in
     let e = members-length r n (drop headerSize ws) in
     let fits : n * recordSize r ≤ length (drop headerSize ws) = rw length-drop (omega (arith, ap (λ (k : ℕ). k * recordSize r) e)) in
-    ap₂ (λ (a b : List ℕ). a ++ b) (header-written ws h) (records-written r n (drop headerSize ws) fits) ∙ rw e (sym (take-add headerSize (n * recordSize r) ws))
+    ap₂ (λ (a b : List ℕ). a ++ b) h (records-written r n (drop headerSize ws) fits) ∙ rw e (sym (take-add headerSize (n * recordSize r) ws))
 
 overlay-take : (n : ℕ) (ws : List ℕ) → n ≤ length ws → overlay (take n ws) ws ≡ ws
 overlay-take n ws h = rw (length-take-le n ws h, take-append-drop)
 
-pub written-same : (ws : List ℕ) → headerSize ≤ length ws → size (tableOf ws) ≤ length ws → written (tableOf ws) ws ≡ ws
+pub written-same : (ws : List ℕ) → OwnHeader ws → size (tableOf ws) ≤ length ws → written (tableOf ws) ws ≡ ws
 written-same ws h le = ap (λ (k : List ℕ). overlay k ws) (words-written ws h le) ∙ overlay-take (size (tableOf ws)) ws le
 
 -- A table written over another of its size leaves nothing of it

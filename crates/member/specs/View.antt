@@ -5,4 +5,4 @@ use Rattle.model.specs.Table.{Member as MemberOf}
 use Rattle.member.specs.declared.Member.{Member}
 
 abbrev pub view : ℕ → Member → MemberOf
-view r m = record { id = m .id; predecessor = m .predecessor; pending = m .pending; candidate = m .candidate; successors = take r (m .successors) }
+view r m = record { id = m .id; predecessor = m .predecessor; pending = m .pending; candidate = m .candidate; successors = take r (m .successors); steps = m .steps }

@@ -3,7 +3,7 @@ ghost use mathlib.Core.Path.{_≡_};
 ghost use Prim.Native.Nat.{ℕ, _≤_};
 ghost use lib.ListN.{take};
 ghost use Rattle.model.specs.Table.{wordLimit};
-ghost use Rattle.model.specs.Steps.{dropHead, adopt as adoptOf, awaitCandidate, clearPending, rectify as rectifyOf, renews as renewsOf};
+ghost use Rattle.model.specs.Steps.{dropHead, adopt as adoptOf, awaitCandidate, clearPending, countStep, rectify as rectifyOf, renews as renewsOf};
 ghost use Rattle.member.specs.View.{view};
 
 // Of the 8 entries a table uses the first r, the successor list; the others never matter.
@@ -13,6 +13,7 @@ pub struct Member {
     pub pending: u32,
     pub candidate: u32,
     pub successors: [u32; 8],
+    pub steps: u32,
 }
 
 impl Member {
@@ -54,6 +55,16 @@ impl Member {
     {
         self.pending = 0;
         self.candidate = 0;
+        self
+    }
+
+    // One step more is counted, up to the largest word.
+    pub fn count_step(mut self) -> Self
+        ensures { λ m. ⌜ ((r : ℕ) → view r m ≡ countStep (view r self)) ⌝ }
+    {
+        if self.steps < 4294967295 {
+            self.steps += 1;
+        }
         self
     }
 

@@ -1,20 +1,21 @@
--- Worked examples, computed: document 01's table of them as one statement over a list of cases, then those of document 02's Req 01 to Req 06.
+-- Worked examples, computed: document 01's table of them as one statement over a list of cases, then those of document 02's Req 01 to Req 07.
 -- A yes is 1 and a no is 0; a number that stands alone is a call's refusal, 0 where it is accepted; other lists are a call's values.
 use Prim.Native.Nat.{ℕ}
 use mathlib.Core.Path.{_≡_, refl}
 use mathlib.Core.List.{List, [], _∷_, _++_, map}
-use lib.ListN.{length, replicate, take}
+use lib.ListN.{length, replicate, take, drop}
 use Rattle.model.specs.Lists.{bit}
 use Rattle.model.specs.Identifier.{space, between, after}
-use Rattle.model.specs.Table.{Member, idle, Table, tableWith, size, tableOf, membersIn, ids, wordsOf, wellFormed, formed, formedMember}
+use Rattle.model.specs.Table.{Member, idle, Table, tableWith, size, recordOf, tableOf, membersIn, ids, wordsOf, wellFormed, formed, formedMember}
 use Rattle.model.specs.Ring.{named, searched, passedBy, passedByAll, sound, candidateInside, ideal, idealMember, verdict}
-use Rattle.model.specs.Steps.{awaitCandidate, stabilizeFromSuccessor, stabilizeFromPredecessor, stabilize, stabilizeReply, nextStep, renews, lookup}
+use Rattle.model.specs.Steps.{withSteps, awaitCandidate, stabilizeFromSuccessor, stabilizeFromPredecessor, stabilize, stabilizeReply, nextStep, renews, lookup}
 use Rattle.model.specs.New.{newTable}
+use Rattle.model.specs.Image.{imageOf, isImage}
 use Rattle.model.specs.Held.{runsOf}
 use Rattle.model.specs.Settle.{delivered, lastStep, finished, afterTurn, afterRound, afterRounds, roundsRun, roundReply, settleReply}
 use Rattle.model.specs.Refusals.{full, newRefusal, noNewTable, joinRefusal, memberRefusal, leaveRefusal, cutsOff, tooFewPrincipals, heldRefusal, settleRefusal}
 use Rattle.model.specs.Calls.{joinAnswer, joinWords, stabilizeAnswer, stabilizeWords, failAnswer, failWords, newAnswer, newWords, leaveAnswer, leaveWords, heldAnswer, principalAnswer}
-use Rattle.model.specs.Run.{Leave, Fail, callAnswer, callWords, run, grantedCall, granted}
+use Rattle.model.specs.Run.{Join, Leave, Fail, Stabilize, callAnswer, callWords, run, grantedCall, granted}
 
 -- a case: what the definitions compute, and what document 01 says
 pub record Case : Type 0 where
@@ -33,9 +34,9 @@ lone l = wordsOf (tableWith (length l) (idle 50 50 l ∷ []))
 abbrev pub stepped : List ℕ → List ℕ
 stepped l = stabilizeAnswer (lone l) 50 .values ++ named (membersIn (stabilizeWords (lone l) 50)) 50 .successors
 
--- a slice of 30 words, and the table of (h) in it
+-- a slice of 40 words, and the table of (h) in it
 abbrev pub blank : List ℕ
-blank = replicate 30 0
+blank = replicate 40 0
 
 abbrev pub tableH : List ℕ
 tableH = newWords blank 2 (10 ∷ 20 ∷ 30 ∷ [])
@@ -175,7 +176,7 @@ verdicts = refl
 
 -- a new ring with lists of two
 abbrev pub ringOf : List ℕ → List ℕ
-ringOf xs = newWords (replicate 40 0) 2 xs
+ringOf xs = newWords blank 2 xs
 
 -- withdrawals from a new ring
 abbrev pub withdrawalCases : List Case
@@ -220,19 +221,29 @@ abbrev pub waiting15 : Table
 waiting15 = tableWith 2
     (awaitCandidate 15 (idle 10 50 (20 ∷ 30 ∷ [])) ∷ idle 30 10 (40 ∷ 50 ∷ []) ∷ idle 40 30 (50 ∷ 10 ∷ []) ∷ idle 50 40 (10 ∷ 30 ∷ []) ∷ [])
 
+-- 10 has the candidate 30 pending, whose predecessor 20 lies nearer; lists of one
+abbrev pub nearer20 : Table
+nearer20 = tableWith 1 (awaitCandidate 30 (idle 10 40 (40 ∷ [])) ∷ idle 20 10 (30 ∷ []) ∷ idle 30 20 (40 ∷ []) ∷ idle 40 30 (10 ∷ []) ∷ [])
+
+-- the members' step counts
+abbrev pub counts : List Member → List ℕ
+counts ms = map (λ m. m .steps) ms
+
 -- settle's reply: rounds run, verdict, entries passed over; a round's: the verdict
 abbrev pub settleCases : List Case
 settleCases =
-    -- after a join 5 - 4 + 2 = 3 rounds, and verdict 2; they take 16 steps, three times five and one more, since 20 looks at 25 in the second
-    (roundsRun 9 joined25 ∷ verdict (afterRounds 3 joined25) ∷ afterRounds 3 joined25 .steps ∷ [] gives 3 ∷ 2 ∷ 16 ∷ []) ∷
+    -- after a join 5 - 4 + 2 = 3 rounds, and verdict 2; each member takes three steps, and 20 one more, since it looks at 25 in the second
+    (roundsRun 9 joined25 ∷ verdict (afterRounds 3 joined25) ∷ counts (afterRounds 3 joined25 .members) gives 3 ∷ 2 ∷ 3 ∷ 4 ∷ 3 ∷ 3 ∷ 3 ∷ []) ∷
     -- the limit reached
     (settleReply 1 joined25 gives 1 ∷ 1 ∷ 0 ∷ []) ∷
     -- limit 0; no round for an ideal table; a single round
     (settleReply 0 joined25 ++ settleReply 9 (ring4 10 40) ++ roundReply joined25 gives 0 ∷ 1 ∷ 0 ∷ 0 ∷ 2 ∷ 0 ∷ 1 ∷ []) ∷
-    -- 10 finishes its pending step and takes one more, 30 and 50 take one each: 4 steps; the notice of the first is delivered
-    (afterRound waiting30 .steps ∷ roundReply waiting30 gives 4 ∷ 2 ∷ []) ∷
-    -- 10 clears its dead candidate, with a notice that is lost, then "again", then "done", the other three take one step each: 6 steps
-    (afterRound waiting15 .steps ∷ roundReply waiting15 gives 6 ∷ 2 ∷ []) ∷ []
+    -- 10 finishes its pending step and takes one more, 30 and 50 take one each; the notice of the first is delivered
+    (counts (afterRound waiting30 .members) ++ roundReply waiting30 gives 2 ∷ 1 ∷ 1 ∷ 2 ∷ []) ∷
+    -- 10 clears its dead candidate, with a notice that is lost, then "again", then "done", the other three take one step each
+    (counts (afterRound waiting15 .members) ++ roundReply waiting15 gives 3 ∷ 1 ∷ 1 ∷ 1 ∷ 2 ∷ []) ∷
+    -- 10 takes up 30, which was pending, looks at 20 and takes it up: r + 2 steps, as many as a round can have of a member
+    (counts (afterRound nearer20 .members) ++ roundReply nearer20 gives 3 ∷ 1 ∷ 1 ∷ 1 ∷ 2 ∷ []) ∷ []
 
 pub settles : map (λ c. c .computed) settleCases ≡ map (λ c. c .expected) settleCases
 unfolding verdict sound ideal idealMember candidateInside between after stabilize stabilizeFromSuccessor stabilizeFromPredecessor stabilizeReply nextStep renews
@@ -272,3 +283,32 @@ pub settle-passes : settleReply 0 waiting15 ++ settleReply 9 waiting15 ≡ 0 ∷
 unfolding verdict sound ideal idealMember candidateInside between after stabilize stabilizeFromSuccessor stabilizeFromPredecessor stabilizeReply nextStep renews
     delivered lastStep finished afterTurn afterRound space
 settle-passes = refl
+
+-- Req 07: the step counts of the members 10, 20 and 30 of (h), and the words and bytes that have them
+
+abbrev pub countCases : List Case
+countCases =
+    -- new and join give 0; a step of 20 counts for 20 alone, one of no member for nobody
+    (counts (membersIn joinedH) ++ counts (membersIn (stabilizeWords joinedH 20)) ++ counts (membersIn (stabilizeWords tableH 25)) gives 0 ∷ 0 ∷ 0 ∷ 0 ∷ 0 ∷ 1 ∷ 0 ∷ 0 ∷ 0 ∷ 0 ∷ 0 ∷ []) ∷
+    -- records that move keep theirs; 20, which was lost and joins again, starts at 0
+    (counts (membersIn (run (Stabilize 20 ∷ Stabilize 30 ∷ Stabilize 30 ∷ Fail 20 ∷ Stabilize 10 ∷ []) tableH)) gives 1 ∷ 2 ∷ []) ∷
+    (counts (membersIn (run (Stabilize 20 ∷ Stabilize 30 ∷ Stabilize 30 ∷ Fail 20 ∷ Stabilize 10 ∷ Join 20 10 ∷ []) tableH)) gives 1 ∷ 0 ∷ 2 ∷ []) ∷
+    -- a loss frees r + 5 words, the count among them
+    (drop (size (tableOf lostH)) (take 24 (failWords (stabilizeWords tableH 30) 30)) gives replicate 7 0) ∷
+    -- the largest word is the last
+    (map nextStep (0 ∷ 4294967294 ∷ 4294967295 ∷ []) gives 1 ∷ 4294967295 ∷ 4294967295 ∷ []) ∷
+    -- a header with a step count is none
+    (map (λ s. bit (wellFormed (1 ∷ 0 ∷ s ∷ []))) (0 ∷ 1 ∷ 4294967295 ∷ []) gives 1 ∷ 0 ∷ 0 ∷ []) ∷
+    -- two tables of the older layout, whose records had no count: read with one they are well-formed by chance
+    (bit (wellFormed (1 ∷ 1 ∷ 0 ∷ 5 ∷ 5 ∷ 0 ∷ 0 ∷ 5 ∷ 77 ∷ [])) ∷ bit (wellFormed (1 ∷ 2 ∷ 0 ∷ 5 ∷ 9 ∷ 0 ∷ 0 ∷ 9 ∷ 9 ∷ 7 ∷ 0 ∷ 0 ∷ 0 ∷ 3 ∷ 4 ∷ [])) ∷ [] gives 1 ∷ 1 ∷ []) ∷
+    -- a record and an image with the count 258
+    (recordOf (withSteps 258 (idle 5 6 (7 ∷ 8 ∷ []))) gives 5 ∷ 6 ∷ 0 ∷ 0 ∷ 7 ∷ 8 ∷ 258 ∷ []) ∷
+    (imageOf (tableWith 1 (withSteps 258 (idle 5 6 (7 ∷ [])) ∷ []))
+    gives 1 ∷ 0 ∷ 7 ∷ 1 ∷ 0 ∷ 1 ∷ 0 ∷ 0 ∷ 0 ∷ 0 ∷ 2 ∷ 0 ∷ 21 ∷ 0 ∷ 0 ∷ 0 ∷ 5 ∷ 0 ∷ 0 ∷ 0 ∷ 6 ∷ 0 ∷ 0 ∷ 0 ∷ 0 ∷ 0 ∷ 0 ∷ 0 ∷ 0 ∷ 7 ∷ 0 ∷ 0 ∷ 1 ∷ 2 ∷ 3 ∷ 0 ∷ 0 ∷ []) ∷
+    -- a first field with a step count is no image's
+    (map (λ s. bit (isImage (1 ∷ 0 ∷ 7 ∷ 1 ∷ 0 ∷ 0 ∷ 0 ∷ 0 ∷ 0 ∷ s ∷ 3 ∷ 0 ∷ 0 ∷ []))) (0 ∷ 1 ∷ []) gives 1 ∷ 0 ∷ []) ∷ []
+
+pub step-counts : map (λ c. c .computed) countCases ≡ map (λ c. c .expected) countCases
+unfolding run callWords joinWords joinRefusal full failWords stabilizeWords memberRefusal stabilize stabilizeFromSuccessor stabilizeFromPredecessor nextStep after
+    between newWords newRefusal noNewTable isImage wellFormed formed formedMember space
+step-counts = refl

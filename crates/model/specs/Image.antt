@@ -32,16 +32,16 @@ abbrev pub words4 : List ℕ → List ℕ
 words4 [] = []
 words4 (x ∷ l) = bytesOf 4 x ++ words4 l
 
--- tag 1: r (one byte), member count (two), step count (four)
-abbrev pub headerContents : ℕ → ℕ → ℕ → List ℕ
-headerContents r n steps = bytesOf 1 r ++ (bytesOf 2 n ++ bytesOf 4 steps)
+-- tag 1: r (one byte), member count (two), and a step count (four) that is 0 always
+abbrev pub headerContents : ℕ → ℕ → List ℕ
+headerContents r n = bytesOf 1 r ++ (bytesOf 2 n ++ bytesOf 4 0)
 
 abbrev pub headerField : Table → List ℕ
-headerField T = field 1 (headerContents (T .r) (length (T .members)) (T .steps))
+headerField T = field 1 (headerContents (T .r) (length (T .members)))
 
--- tag 2: identifier, predecessor, pending (one byte), candidate, list
+-- tag 2: identifier, predecessor, pending (one byte), candidate, list, step count
 abbrev pub memberContents : Member → List ℕ
-memberContents m = words4 (m .id ∷ m .predecessor ∷ []) ++ (bytesOf 1 (m .pending) ++ words4 (m .candidate ∷ m .successors))
+memberContents m = words4 (m .id ∷ m .predecessor ∷ []) ++ (bytesOf 1 (m .pending) ++ words4 (m .candidate ∷ (m .successors ++ (m .steps ∷ []))))
 
 abbrev pub memberField : Member → List ℕ
 memberField m = field 2 (memberContents m)
@@ -64,7 +64,7 @@ headerLength = 7
 
 -- the contents' length of a tag 2 field
 abbrev pub memberLength : ℕ → ℕ
-memberLength r = 13 + 4 * r
+memberLength r = 17 + 4 * r
 
 -- n numbers of four bytes
 abbrev pub numbersAt : ℕ → List ℕ → List ℕ
@@ -73,7 +73,7 @@ numbersAt (suc n) bs = numberAt bs 0 4 ∷ numbersAt n (drop 4 bs)
 
 -- the member that the contents of a tag 2 field say
 abbrev pub fieldMember : ℕ → List ℕ → Member
-fieldMember r bs = record { id = numberAt bs 0 4; predecessor = numberAt bs 4 4; pending = numberAt bs 8 1; candidate = numberAt bs 9 4; successors = numbersAt r (drop 13 bs) }
+fieldMember r bs = record { id = numberAt bs 0 4; predecessor = numberAt bs 4 4; pending = numberAt bs 8 1; candidate = numberAt bs 9 4; successors = numbersAt r (drop 13 bs); steps = numberAt (drop 13 bs) (4 * r) 4 }
 
 -- the members that n tag 2 fields say, one after the other
 abbrev pub fieldMembers : ℕ → ℕ → List ℕ → List Member
@@ -89,7 +89,7 @@ imageCount bs = numberAt bs 4 2
 
 -- the table that bytes say, wherever they are an image
 abbrev pub tableIn : List ℕ → Table
-tableIn bs = record { r = imageR bs; steps = numberAt bs 6 4; members = fieldMembers (imageR bs) (imageCount bs) (drop (fieldHead + headerLength) bs) }
+tableIn bs = record { r = imageR bs; members = fieldMembers (imageR bs) (imageCount bs) (drop (fieldHead + headerLength) bs) }
 
 -- bytes are an image: the writing of a well-formed table
 unfoldable pub isImage : List ℕ → Bool

@@ -8,6 +8,6 @@ use Rattle.model.specs.Ring.{nextDown, nextUps}
 abbrev pub newMember : ℕ → List ℕ → ℕ → Member
 newMember r xs x = idle x (nextDown xs x) (nextUps r xs x)
 
--- the new table of rising identifiers: ideal, each list the next r members, step count 0
+-- the new table of rising identifiers: ideal, each list the next r members, no step counted
 abbrev pub newTable : ℕ → List ℕ → Table
 newTable r xs = tableWith r (map (newMember r xs) xs)

@@ -13,7 +13,7 @@ use Rattle.model.specs.Steps.{without}
 use Rattle.model.specs.New.{newTable}
 use Rattle.model.specs.Image.{isImage, imageOf, tableIn}
 
--- 5: 256 members, or fewer than r + 4 words after the last record
+-- 5: 256 members, or fewer than r + 5 words after the last record
 unfoldable pub full : List ℕ → Bool
 full ws = leb 256 (length (membersIn ws)) || ltb (length ws - size (tableOf ws)) (recordSize (tableOf ws .r))
 

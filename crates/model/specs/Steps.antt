@@ -1,7 +1,7 @@
 -- Document 01, "The calls of a member": what each does to a member's record and to the table, and what it replies.
 use Prim.Native.Nat.{ℕ, zero, suc, _+_}
 use mathlib.Core.Bool.{Bool, not, _||_}
-use mathlib.Core.List.{List, [], _∷_, _++_}
+use mathlib.Core.List.{List, [], _∷_, _++_, map}
 use lib.Dec.{ltb, eqb}
 use lib.ListN.{length, drop}
 use Rattle.model.specs.Lists.{if_then_else_, option, select, bit, lastOf, withoutLast}
@@ -12,27 +12,31 @@ use Rattle.model.specs.Answer.{Answer, accepted}
 
 -- the record with another successor list
 abbrev pub withSuccessors : List ℕ → Member → Member
-withSuccessors l m = record { id = m .id; predecessor = m .predecessor; pending = m .pending; candidate = m .candidate; successors = l }
+withSuccessors l m = record { id = m .id; predecessor = m .predecessor; pending = m .pending; candidate = m .candidate; successors = l; steps = m .steps }
 
 -- the record with another predecessor
 abbrev pub withPredecessor : ℕ → Member → Member
-withPredecessor p m = record { id = m .id; predecessor = p; pending = m .pending; candidate = m .candidate; successors = m .successors }
+withPredecessor p m = record { id = m .id; predecessor = p; pending = m .pending; candidate = m .candidate; successors = m .successors; steps = m .steps }
 
 -- the record with another pending and candidate
 abbrev pub withPending : ℕ → ℕ → Member → Member
-withPending b c m = record { id = m .id; predecessor = m .predecessor; pending = b; candidate = c; successors = m .successors }
+withPending b c m = record { id = m .id; predecessor = m .predecessor; pending = b; candidate = c; successors = m .successors; steps = m .steps }
+
+-- the record with another step count
+abbrev pub withSteps : ℕ → Member → Member
+withSteps s m = record { id = m .id; predecessor = m .predecessor; pending = m .pending; candidate = m .candidate; successors = m .successors; steps = s }
 
 -- the table with other members
 abbrev pub withMembers : List Member → Table → Table
-withMembers ms T = record { r = T .r; steps = T .steps; members = ms }
+withMembers ms T = record { r = T .r; members = ms }
 
--- the table with another step count
-abbrev pub withSteps : ℕ → Table → Table
-withSteps s T = record { r = T .r; steps = s; members = T .members }
+-- the table with each step count 0: what is left of it where counts do not matter
+abbrev pub uncounted : Table → Table
+uncounted T = withMembers (map (withSteps 0) (T .members)) T
 
 -- Join
 
--- what j is as a new member by p: predecessor p, p's list, nothing pending
+-- what j is as a new member by p: predecessor p, p's list, nothing pending, no step counted
 abbrev pub joiner : List Member → ℕ → ℕ → Member
 joiner ms j p = idle j p (named ms p .successors)
 
@@ -100,14 +104,18 @@ stabilizeReply ms m =
 unfoldable pub nextStep : ℕ → ℕ
 nextStep s = if ltb (suc s) wordLimit then suc s else s
 
+-- the record with one step more counted
+abbrev pub countStep : Member → Member
+countStep m = withSteps (nextStep (m .steps)) m
+
 -- the members with v in the place of the one that has its identifier
 abbrev pub replaced : Member → List Member → List Member
 replaced v [] = []
 replaced v (m ∷ ms) = if eqb (m .id) (v .id) then v ∷ ms else m ∷ replaced v ms
 
--- the table after a stabilize step of n
+-- the table after a stabilize step of n, which n's own record counts
 abbrev pub stabilized : ℕ → Table → Table
-stabilized n T = withSteps (nextStep (T .steps)) (withMembers (replaced (stabilize (spaceOf T) (T .members) (named (T .members) n)) (T .members)) T)
+stabilized n T = withMembers (replaced (countStep (stabilize (spaceOf T) (T .members) (named (T .members) n))) (T .members)) T
 
 -- Rectify
 

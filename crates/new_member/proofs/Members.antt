@@ -5,8 +5,8 @@ use mathlib.Core.Bool.{true}
 use mathlib.Core.List.{List, [], _∷_, _++_, append-assoc}
 use native.Mathlib.Nat.{zero-add}
 use native.Mathlib.Omega.{arith}
-use lib.ListN.{length, getD, take, drop, set, length-append, length-drop, take-append-drop}
-use lib.Seq.{take-at, drop-at, drop-drop, drop-append-seam, take-append-le, sets, sets-eq}
+use lib.ListN.{length, getD, take, drop, set, length-append, length-drop}
+use lib.Seq.{take-at, drop-at, drop-drop, drop-append-seam, take-append-le, set-split, drop-set-lt, sets, sets-eq}
 use Rattle.model.specs.Lists.{rising, overlay}
 use Rattle.model.specs.Table.{recordSize, recordOf}
 use Rattle.model.specs.Ring.{nextUp, nextDown, nextUps}
@@ -19,6 +19,11 @@ use Rattle.laws.specs.Words.{record-length}
 -- words stored one by one from the front
 pub stored : (vs l : List ℕ) → length vs ≤ length l → sets l 0 vs ≡ overlay vs l
 stored vs l h = rw zero-add at (sets-eq vs l 0 (rw zero-add h))
+
+-- and one more after them
+sets-more : (l : List ℕ) (i : ℕ) (vs : List ℕ) (v : ℕ) → set (sets l i vs) (i + length vs) v ≡ sets l i (vs ++ (v ∷ []))
+sets-more l i [] v = let q : i + 0 ≡ i = omega arith in rw q
+sets-more l i (a ∷ vs) v = let q : i + suc (length vs) ≡ suc i + length vs = omega arith in rw q (sets-more (set l i a) (suc i) vs v)
 
 -- the words with those from at on replaced by y
 abbrev pub replaced : List ℕ → List ℕ → ℕ → List ℕ
@@ -67,11 +72,14 @@ module _ (xs : List ℕ) where
   pub front-stored : (l : List ℕ) (x p : ℕ) → p ≡ nextDown xs x → 4 ≤ length l → set (set (set (set l 0 x) 1 p) 2 0) 3 0 ≡ overlay (front x) l
   front-stored l x p e h = rw e (stored (front x) l h)
 
-  -- and the entries after them
-  pub record-stored : (l m s : List ℕ) (r x : ℕ) → m ≡ overlay (front x) l → s ≡ nextUps r xs x → recordSize r ≤ length l → sets m 4 s ≡ overlay (recordOf (newMember r xs x)) l
-  record-stored l m s r x e f h =
+  -- and the entries after them, and the step count
+  pub record-stored : (l m : List ℕ) (r x : ℕ) → m ≡ overlay (front x) l → recordSize r ≤ length l → set (sets m 4 (nextUps r xs x)) (4 + r) 0 ≡ overlay (recordOf (newMember r xs x)) l
+  record-stored l m r x e h =
       let g : m ≡ sets l 0 (front x) = e ∙ sym (stored (front x) l (omega arith)) in
-      rw (g, f) (stored (recordOf (newMember r xs x)) l (omega (arith, record-length r (newMember r xs x) (next-ups-length r xs x))))
+      let ups : List ℕ = nextUps r xs x in
+      ap (λ (k : ℕ). set (sets m 4 ups) (4 + k) 0) (sym (next-ups-length r xs x)) ∙ sets-more m 4 ups 0
+      ∙ ap (λ (k : List ℕ). sets k 4 (ups ++ (0 ∷ []))) g
+      ∙ stored (recordOf (newMember r xs x)) l (omega (arith, record-length r (newMember r xs x) (next-ups-length r xs x)))
 
   -- `write_ahead`: eight entries y over the list of m, where none goes round the end
   pub eight-ahead : (l m y : List ℕ) (i : ℕ) → rising xs ≡ true → i + 8 < length xs → m ≡ overlay (front (getD xs i 0)) l
@@ -85,13 +93,19 @@ module _ (xs : List ℕ) where
       ∙ take-append-le 8 (drop (suc i) xs) xs (simp length-drop (omega arith)))) in
       overlay-more m l y (front x) (nextUps 8 xs x) 4 e refl (f ∙ ap (λ (z : List ℕ). overlay z (take (length m - 4) (drop 4 m))) s)
 
-  module _ (t l : List ℕ) (x : ℕ) (e : t ≡ overlay (front x ++ nextUps 8 xs x) l) where
-    -- the record with the first r of them stands in front
-    pub ahead-record : (r : ℕ) → r ≤ 8 → t ≡ overlay (recordOf (newMember r xs x)) t
-    ahead-record r h =
-        let more : List ℕ = drop r (nextUps 8 xs x) in
-        let s : front x ++ nextUps 8 xs x ≡ recordOf (newMember r xs x) ++ more = rw (← take-ups r 8 xs x h, take-append-drop) in
-        over-itself (recordOf (newMember r xs x)) _ t (e ∙ ap (λ (k : List ℕ). overlay k l) s ∙ append-assoc (recordOf (newMember r xs x)) more _)
+  -- and the step count stored after the first r of them
+  module _ (t l : List ℕ) (r x : ℕ) (h : r ≤ 8) (e : t ≡ overlay (front x ++ nextUps 8 xs x) l) where
+    -- the record with these stands in front
+    pub ahead-record : recordSize 8 ≤ length l → set t (4 + r) 0 ≡ overlay (recordOf (newMember r xs x)) (set t (4 + r) 0)
+    ahead-record long =
+        let all : List ℕ = front x ++ nextUps 8 xs x in
+        let most : length t ≡ length all + length (drop (length all) l) = rw e (length-append all (drop (length all) l)) in
+        let q : 4 + r ≡ suc (suc (suc (suc r))) = omega arith in
+        let first : take (4 + r) t ≡ front x ++ nextUps r xs x =
+        ap (take (4 + r)) e ∙ take-append-le (4 + r) all (drop (length all) l) (omega arith) ∙ rw q (ap (λ (k : List ℕ). front x ++ k) (take-ups r 8 xs x h)) in
+        over-itself (recordOf (newMember r xs x)) (drop (suc (4 + r)) t) (set t (4 + r) 0)
+        (set-split t (4 + r) 0 (omega (arith, length-drop (length all) l)) ∙ ap (λ (k : List ℕ). k ++ (0 ∷ drop (suc (4 + r)) t)) first
+        ∙ sym (append-assoc (front x ++ nextUps r xs x) (0 ∷ []) (drop (suc (4 + r)) t)))
 
-    pub ahead-behind : drop (recordSize 8) t ≡ drop (recordSize 8) l
-    ahead-behind = ap (drop (recordSize 8)) e ∙ behind (front x ++ nextUps 8 xs x) l (recordSize 8) (omega arith)
+    pub ahead-behind : drop (recordSize 8) (set t (4 + r) 0) ≡ drop (recordSize 8) l
+    ahead-behind = drop-set-lt (recordSize 8) t (4 + r) 0 (omega arith) ∙ ap (drop (recordSize 8)) e ∙ behind (front x ++ nextUps 8 xs x) l (recordSize 8) (omega arith)

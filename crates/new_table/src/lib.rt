@@ -50,7 +50,7 @@ fn write_table(t: &mut [u32], r: usize, xs: &[u32])
     let mut i: usize = 0;
     while i + 8 < n {
         let at = words::offset(r, i);
-        new_member::write_ahead(&mut t[at..], xs, i);
+        new_member::write_ahead(&mut t[at..], xs, i, r);
         i += 1;
     }
     while i < n {

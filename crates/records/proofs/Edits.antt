@@ -14,7 +14,7 @@ use Rattle.model.specs.Ring.{live}
 use Rattle.model.specs.Steps.{inserted, replaced, withMembers, without}
 use Rattle.model.specs.Calls.{written, writtenFreed}
 use Rattle.laws.specs.Parts.{drop-take, part-from, tail-back}
-use Rattle.laws.specs.Words.{record-length, members-length, records-written, header-take, header-counted, header-same}
+use Rattle.laws.specs.Words.{OwnHeader, record-length, members-length, records-written, header-take, header-counted, header-same}
 use Rattle.table.specs.Rank.{rank}
 use Rattle.table.proofs.Members.{span, ids-count, members-take, members-drop, records-append}
 use Rattle.table.proofs.Place.{At, Gap, rank-most, gap-at, within-count, replaced-at, without-at, inserted-at}
@@ -103,13 +103,13 @@ abbrev back : ℕ → List ℕ → List ℕ → List ℕ
 back at ws ys = take at ws ++ (ys ++ drop (length ws - at) (drop at ws))
 
 -- the whole, where the tail began after k records
-back-at : (ws : List ℕ) (h : headerSize ≤ length ws) (at n : ℕ) (ys : List ℕ) → at ≡ headerSize + n → back at ws ys ≡ headerOf (tableOf ws) ++ (take n (body ws) ++ ys)
+back-at : (ws : List ℕ) (h : OwnHeader ws) (at n : ℕ) (ys : List ℕ) → at ≡ headerSize + n → back at ws ys ≡ headerOf (tableOf ws) ++ (take n (body ws) ++ ys)
 back-at ws h at n ys e = tail-back at ws ys ∙ ap (λ (i : ℕ). take i ws ++ ys) e ∙ ap (λ (x : List ℕ). x ++ ys) (header-take ws n h)
 
 lent-at : (ws : List ℕ) (at n : ℕ) → at ≡ headerSize + n → lent at ws ≡ drop n (body ws)
 lent-at ws at n e = part-from at ws ∙ ap (λ (i : ℕ). drop i ws) e ∙ after-header ws n
 
-module _ (ws : List ℕ) (h : headerSize ≤ length ws) where
+module _ (ws : List ℕ) (h : OwnHeader ws) where
   pub insert-words : (v : Member) (at end k : ℕ) (ys : List ℕ) → length (v .successors) ≡ getD ws 0 0 → Gap (v .id) (membersIn ws) k → k ≤ getD ws 1 0
       → at ≡ headerSize + k * recordWords ws → end ≡ headerSize + getD ws 1 0 * recordWords ws → end + recordWords ws ≤ length ws
       → ys ≡ recordOf v ++ (take (end - at) (lent at ws) ++ drop (end - at + recordWords ws) (lent at ws))

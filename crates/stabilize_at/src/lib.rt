@@ -1,11 +1,11 @@
 // One stabilize step of the member at a place, on a table known to be well-formed. For the crates above.
 ghost use mathlib.Core.Path.{_≡_};
-ghost use Prim.Native.Nat.{_≤_, _<_};
-ghost use lib.ListN.{length, getD, set};
-ghost use Rattle.model.specs.Table.{headerSize, membersIn, tableOf, ids};
+ghost use Prim.Native.Nat.{_<_};
+ghost use lib.ListN.{getD};
+ghost use Rattle.model.specs.Table.{membersIn, tableOf, ids};
 ghost use Rattle.model.specs.Ring.{named};
 ghost use Rattle.model.specs.Answer.{accepted};
-ghost use Rattle.model.specs.Steps.{stabilizeReply, nextStep, stabilized};
+ghost use Rattle.model.specs.Steps.{stabilizeReply, stabilized};
 ghost use Rattle.model.specs.Calls.{written};
 ghost use Rattle.table.specs.FormedWords.{FormedWords};
 ghost use Rattle.table.specs.Located.{Stands};
@@ -88,18 +88,7 @@ fn take_step(t: &[u32], m: Member) -> TakenStep
     from_successor(t, m, k)
 }
 
-// One more step is counted, up to the largest word.
-fn count_step(t: &mut [u32])
-    requires { ⌜ headerSize ≤ length (now t) ⌝ }
-    ensures { λ _. ⌜ now (t .exit) ≡ set (now (t .entry)) 2 (nextStep (getD (now (t .entry)) 2 0)) ⌝ }
-{
-    let s = t[words::STEPS];
-    if s < 4294967295 {
-        t[words::STEPS] = s + 1;
-    }
-}
-
-// One step of the member at place k.
+// One step of the member at place k, which its own record counts.
 pub fn stabilize_at(t: &mut [u32], k: usize) -> Step
     requires { ⌜ FormedWords (now t) ⌝ }
     requires { ⌜ k < getD (now t) 1 0 ⌝ }
@@ -110,7 +99,7 @@ pub fn stabilize_at(t: &mut [u32], k: usize) -> Step
     let m = table::member_at(t, k);
     let o = take_step(t, m);
     let n = o.member;
-    records::replace_at(t, k, n);
-    count_step(t);
+    let c = n.count_step();
+    records::replace_at(t, k, c);
     o.reply
 }

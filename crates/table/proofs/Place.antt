@@ -19,7 +19,8 @@ use Rattle.table.specs.Rank.{rank}
 use Rattle.table.specs.Located.{Stands, located}
 use Rattle.table.specs.declared.Located.{Located}
 use Rattle.table.specs.declared.Located.the-variants.{Here, Missing}
-use Rattle.laws.specs.Words.{members-length, written-same}
+use Rattle.laws.specs.Words.{OwnHeader, members-length, written-same}
+use Rattle.laws.specs.Tables.{wellFormed-facts}
 use Rattle.laws.specs.Lists.{and-true as both, in-live}
 use Rattle.laws.specs.Removed.{without-none}
 use Rattle.laws.specs.Order.{less?}
@@ -217,9 +218,13 @@ at-place (m ∷ ms) (suc k) e h = at-later (rising-above (m .id) (ids ms) k e (l
 pub within-count : (ws : List ℕ) {x k : ℕ} → At x (membersIn ws) k → k < getD ws 1 0
 within-count ws a = omega (arith, at-within a, members-length (getD ws 0 0) (getD ws 1 0) (drop headerSize ws))
 
+-- its first words are its table's header
+pub own-header : (ws : List ℕ) → FormedWords ws → OwnHeader ws
+own-header ws f = wellFormed-facts ws (f .right) .own-header
+
 -- the table's own words written over it
 pub same-words : (ws : List ℕ) → FormedWords ws → ws ≡ written (tableOf ws) ws
-same-words ws f = sym (written-same ws (f .header) (rw (size-words ws) (f .fits)))
+same-words ws f = sym (written-same ws (own-header ws f) (rw (size-words ws) (f .fits)))
 
 -- at each place a member stands
 pub own-place : (ws : List ℕ) (k : ℕ) → k < getD ws 1 0 → Stands ws k (getD (ids (membersIn ws)) k 0)

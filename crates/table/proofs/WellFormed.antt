@@ -17,7 +17,7 @@ use Rattle.model.specs.Lists.{every, rising, risingFrom}
 use Rattle.model.specs.Table.{Member, spaceOf, wordLimit, headerSize, recordSize, tableOf, memberOf, recordOf, membersOf, membersIn, ids, formedMember, formed as formedTable, wellFormed}
 use Rattle.table.specs.FormedWords.{FormedWords}
 use Rattle.table.specs.Tests.{rightPending, rightFrom}
-use Rattle.laws.specs.Words.{members-length, record-list, record-has, record-written}
+use Rattle.laws.specs.Words.{members-length, record-list, record-has, record-steps, record-written}
 use Rattle.laws.specs.Tables.{wellFormed-facts, space-words}
 use Rattle.laws.specs.Parts.{first-member}
 
@@ -58,7 +58,7 @@ module _ (w : ℕ) (all : wordLimit ≤ w) where
       let identifiers : every (λ x. ltb x w) (m .id ∷ m .predecessor ∷ m .candidate ∷ m .successors) ≡ true =
       in-every (λ x. ltb x w) (m .id ∷ m .predecessor ∷ m .candidate ∷ m .successors)
       (λ x i. lt-ltb x w (omega (arith, bounded-in (recordOf m) h (record-has m i)))) in
-      rw (eq-eqb (length (m .successors)) r n, identifiers, and-true, and-true)
+      rw (eq-eqb (length (m .successors)) r n, lt-ltb (m .steps) wordLimit (bounded-in (recordOf m) h (record-steps m)), identifiers, and-true, and-true, and-true)
 
   member-tests : (r : ℕ) (ws : List ℕ) → recordSize r ≤ length ws → Bounded ws → formedMember w r (memberOf r ws) ≡ rightPending (getD ws 2 0) (getD ws 3 0)
   member-tests r ws l h = member-right r (memberOf r ws) (record-list r ws l) (subst Bounded (sym (record-written r ws l)) (bounded-take (recordSize r) ws h))
@@ -86,9 +86,9 @@ module _ (w : ℕ) (all : wordLimit ≤ w) where
 
 -- a slice whose sizes are right is well-formed by the tests of its records
 pub tests : (ws : List ℕ) → Bounded ws → headerSize ≤ length ws → 1 ≤ getD ws 0 0 → getD ws 0 0 ≤ 8 → getD ws 1 0 ≤ 256
-    → headerSize + getD ws 1 0 * recordSize (getD ws 0 0) ≤ length ws → rightFrom 0 (membersIn ws) ≡ wellFormed ws
+    → getD ws 2 0 ≡ 0 → headerSize + getD ws 1 0 * recordSize (getD ws 0 0) ≤ length ws → rightFrom 0 (membersIn ws) ≡ wellFormed ws
 unfolding wellFormed formedTable
-tests ws h l lo hi few fits =
+tests ws h l lo hi few none fits =
     let r : ℕ = getD ws 0 0 in
     let n : ℕ = getD ws 1 0 in
     let a = all-tests (spaceOf (tableOf ws)) (omega (arith, space-words (tableOf ws))) r n (drop headerSize ws) (simp length-drop (omega arith)) (bounded-drop headerSize ws h) in
@@ -99,7 +99,7 @@ tests ws h l lo hi few fits =
       le-leb 1 r lo,
       le-leb r 8 hi,
       le-leb n 256 few,
-      lt-ltb (getD ws 2 0) wordLimit (h 2),
+      eq-eqb (getD ws 2 0) 0 none,
       ← a,
     )
 

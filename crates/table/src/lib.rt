@@ -78,6 +78,9 @@ pub fn well_formed(t: &[u32]) -> bool
     if 256 < n {
         return false;
     }
+    if t[words::STEPS] != 0 {
+        return false;
+    }
     if t.len() < words::offset(r, n) {
         return false;
     }

@@ -11,7 +11,7 @@ use Rattle.model.specs.Lists.{any, contains}
 use Rattle.model.specs.Table.{Member, Table, spaceOf, ids, tableOf, membersIn, wellFormed}
 use Rattle.model.specs.Ring.{live, named, successor, isPending, sound}
 use Rattle.model.specs.Answer.{accepted}
-use Rattle.model.specs.Steps.{isBetter, stabilizeFromPredecessor, stabilize, stabilizeReply, replaced}
+use Rattle.model.specs.Steps.{isBetter, stabilizeFromPredecessor, stabilize, stabilizeReply, replaced, countStep}
 use Rattle.model.specs.Refusals.{memberRefusal}
 use Rattle.model.specs.Calls.{stabilizeAnswer, stabilizeWords}
 use Rattle.model.specs.Run.{Stabilize, callWords, run}
@@ -77,15 +77,15 @@ module _ (n : ℕ) where
 
     -- the members after a step of n
 
-    members : membersIn (stabilizeWords ws n) ≡ replaced (stabilize (spaceOf (tableOf ws)) (membersIn ws) (named (membersIn ws) n)) (membersIn ws)
+    members : membersIn (stabilizeWords ws n) ≡ replaced (countStep (stabilize (spaceOf (tableOf ws)) (membersIn ws) (named (membersIn ws) n))) (membersIn ws)
     members = ap (λ (T : Table). T .members) (stabilize-table ws n accepts)
 
     same-ids : ids (membersIn (stabilizeWords ws n)) ≡ ids (membersIn ws)
-    same-ids = ap ids members ∙ replaced-ids (stabilize (spaceOf (tableOf ws)) (membersIn ws) (named (membersIn ws) n)) (membersIn ws)
+    same-ids = ap ids members ∙ replaced-ids (countStep (stabilize (spaceOf (tableOf ws)) (membersIn ws) (named (membersIn ws) n))) (membersIn ws)
 
-    stepped : named (membersIn (stabilizeWords ws n)) n ≡ stabilize (spaceOf (tableOf ws)) (membersIn ws) (named (membersIn ws) n)
+    stepped : named (membersIn (stabilizeWords ws n)) n ≡ countStep (stabilize (spaceOf (tableOf ws)) (membersIn ws) (named (membersIn ws) n))
     stepped =
-        let v = stabilize (spaceOf (tableOf ws)) (membersIn ws) (named (membersIn ws) n) in
+        let v = countStep (stabilize (spaceOf (tableOf ws)) (membersIn ws) (named (membersIn ws) n)) in
         let i = live-in (membersIn ws) n (g .member) in
         let e : v .id ≡ n = same-id (membersIn ws) (named (membersIn ws) n) (spaceOf (tableOf ws)) ∙ found (membersIn ws) i .1 in
         ap (λ (ms : List Member). named ms n) members ∙ subst (λ (x : ℕ). named (replaced v (membersIn ws)) x ≡ v) e
@@ -104,7 +104,7 @@ module _ (n : ℕ) where
     awaits p d b =
         let ms = membersIn ws in
         let m = named ms n in
-        ap isPending (stepped ∙ sym (step-live ms m (spaceOf (tableOf ws)) p d) ∙ sym (offered-better ms m b))
+        ap isPending (stepped ∙ ap countStep (sym (step-live ms m (spaceOf (tableOf ws)) p d) ∙ sym (offered-better ms m b)))
 
   comes-to-done : (ws : List ℕ) (g : With ws) → isPending (named (membersIn ws) n) ≡ false → live (membersIn ws) (successor (named (membersIn ws) n)) ≡ true → ComesToDone n ws
   comes-to-done ws g p d = go (isBetter (membersIn ws) (named (membersIn ws) n)) refl
@@ -142,7 +142,7 @@ module _ (n : ℕ) where
       LiveAt (ids (membersIn ws)) (named (membersIn ws) n .successors) (suc i) → LiveAt (ids (membersIn (stabilizeWords ws n))) (named (membersIn (stabilizeWords ws n)) n .successors) i
   nearer ws g i p q a =
       subst (λ (xs : List ℕ). LiveAt xs (named (membersIn (stabilizeWords ws n)) n .successors) i) (sym (same-ids ws g))
-      (subst (λ (v : Member). LiveAt (ids (membersIn ws)) (v .successors) i) (step-dead (membersIn ws) (named (membersIn ws) n) (spaceOf (tableOf ws)) p q ∙ sym (stepped ws g))
+      (subst (λ (v : Member). LiveAt (ids (membersIn ws)) (v .successors) i) (ap countStep (step-dead (membersIn ws) (named (membersIn ws) n) (spaceOf (tableOf ws)) p q) ∙ sym (stepped ws g))
       (in-front (ids (membersIn ws)) (named (membersIn ws) n .successors) _ i a))
 
   -- where a live entry stands at place i of the list
@@ -167,7 +167,7 @@ module _ (n : ℕ) where
   clears zero ws g p a = clear-here ws 0 (a .lives)
   clears (suc i) ws g p a = go (live (membersIn ws) (successor (named (membersIn ws) n))) refl
       (λ q. clears i (stabilizeWords ws n) (next ws g) (ap isPending
-      (stepped ws g ∙ sym (step-dead (membersIn ws) (named (membersIn ws) n) (spaceOf (tableOf ws)) p q)) ∙ p) (nearer ws g i p q a))
+      (stepped ws g ∙ ap countStep (sym (step-dead (membersIn ws) (named (membersIn ws) n) (spaceOf (tableOf ws)) p q))) ∙ p) (nearer ws g i p q a))
     where
       go : (d : Bool) → live (membersIn ws) (successor (named (membersIn ws) n)) ≡ d
           → (live (membersIn ws) (successor (named (membersIn ws) n)) ≡ false → Clears n i (stabilizeWords ws n)) → Clears n (suc i) ws
@@ -184,13 +184,13 @@ module _ (n : ℕ) where
       m : Member
       m = named ms n
 
-      now : named (membersIn (stabilizeWords ws n)) n ≡ stabilizeFromPredecessor ms m
-      now = stepped ws g ∙ sym (step-pending ms m (spaceOf (tableOf ws)) p)
+      now : named (membersIn (stabilizeWords ws n)) n ≡ countStep (stabilizeFromPredecessor ms m)
+      now = stepped ws g ∙ ap countStep (sym (step-pending ms m (spaceOf (tableOf ws)) p))
 
       go : (b : Bool) → live ms (m .candidate) ≡ b → Clears n i (stabilizeWords ws n)
-      go true e = clear-here (stabilizeWords ws n) i (rw (now ∙ sym (candidate-taken ms m e)) (subst (λ (xs : List ℕ). contains xs (m .candidate) ≡ true) (sym (same-ids ws g)) e))
+      go true e = clear-here (stabilizeWords ws n) i (rw (now ∙ ap countStep (sym (candidate-taken ms m e))) (subst (λ (xs : List ℕ). contains xs (m .candidate) ≡ true) (sym (same-ids ws g)) e))
       go false e =
-          let q = now ∙ sym (candidate-cleared ms m e) in
+          let q = now ∙ ap countStep (sym (candidate-cleared ms m e)) in
           clears i (stabilizeWords ws n) (next ws g) (ap isPending q)
           (subst (λ (xs : List ℕ). LiveAt xs (named (membersIn (stabilizeWords ws n)) n .successors) i) (sym (same-ids ws g))
           (subst (λ (v : Member). LiveAt (ids ms) (v .successors) i) (sym q) a))

@@ -5,10 +5,10 @@ use mathlib.Core.Bool.{Bool, true, false}
 use mathlib.Core.List.{List, [], _∷_}
 use lib.ListN.{length, getD, drop}
 use Rattle.model.specs.Lists.{every}
-use Rattle.model.specs.Table.{Table, size, tableOf, membersIn, uncounted, formed, wellFormed}
+use Rattle.model.specs.Table.{Table, size, tableOf, membersIn, formed, wellFormed}
 use Rattle.model.specs.Ring.{live, principals, sound, verdict, passedByAll}
 use Rattle.model.specs.Answer.{accepted}
-use Rattle.model.specs.Steps.{stabilized}
+use Rattle.model.specs.Steps.{uncounted, stabilized}
 use Rattle.model.specs.Settle.{isDone, lastStep, finished, afterTurn}
 use Rattle.model.specs.Calls.{roundAnswer, roundWords, settleAnswer, settleWords}
 use Rattle.model.specs.Service.{Service, Called, Round, Settle, serviceWords, served}
@@ -22,7 +22,7 @@ abbrev pub rounds : ℕ → List ℕ → List ℕ
 rounds zero ws = ws
 rounds (suc k) ws = rounds k (roundWords ws)
 
--- a slice at rest: its table is sound and ideal, and a round changes nothing of it but the step count, and no word after it
+-- a slice at rest: its table is sound and ideal, and a round changes nothing of it but step counts, and no word after it
 pub record AtRest (ws : List ℕ) : Type 0 where
   pub verdict-2 : verdict (tableOf ws) ≡ 2
   pub replies-2 : roundAnswer ws ≡ accepted (2 ∷ [])

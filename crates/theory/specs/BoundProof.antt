@@ -1,16 +1,17 @@
 -- The proof of settle's bound: Far's rounds and one more until no successor is wrong, then Right's until no entry is; and what that says of slices.
 use mathlib.Core.Path.{_≡_, refl, sym, ap, ap₂, subst, _∙_}
-use mathlib.Core.Bool.{Bool, true, false, not, false≢true}
-use mathlib.Core.List.{List, [], _∷_}
+use mathlib.Core.Bool.{Bool, true, false, not, _&&_, false≢true}
+use mathlib.Core.List.{List, [], _∷_, map}
 use Prim.Native.Nat.{ℕ, zero, suc, _+_, _-_, _*_, _≤_}
 use native.Mathlib.Omega.{arith}
 use lib.Dec.{eqb}
 use lib.ListN.{length, getD, take, drop}
 use borrow.Author.Tests.{eqb-true, eqb-false}
 use Rattle.model.specs.Lists.{if_then_else_, every, count}
-use Rattle.model.specs.Table.{Table, tableWith, size, tableOf, membersIn, ids, uncounted}
-use Rattle.model.specs.Ring.{named, principal, ideal, verdict, nextUp, passedByAll}
+use Rattle.model.specs.Table.{Member, Table, tableWith, size, tableOf, membersIn, ids}
+use Rattle.model.specs.Ring.{named, principal, idealMember, ideal, verdict, nextUp, passedByAll}
 use Rattle.model.specs.Answer.{Answer, accepted}
+use Rattle.model.specs.Steps.{withSteps, uncounted}
 use Rattle.model.specs.New.{newTable}
 use Rattle.model.specs.Settle.{afterRound, afterRounds, roundsRun, afterSettle, settleReply}
 use Rattle.model.specs.Calls.{written, roundAnswer, roundWords, settleAnswer, settleWords}
@@ -39,10 +40,19 @@ first-one : (l : List ℕ) (x : ℕ) → 1 ≤ length l → getD l 0 0 ≡ x →
 first-one [] x h e = absurd (omega arith)
 first-one (y ∷ l) x h e = ap (λ (z : ℕ). z ∷ []) e
 
--- the step count is no part of what makes a table ideal
+-- step counts are no part of what makes a table ideal
+uncounted-ids : (ms : List Member) → ids (map (withSteps 0) ms) ≡ ids ms
+uncounted-ids [] = refl
+uncounted-ids (m ∷ ms) = ap (λ (l : List ℕ). m .id ∷ l) (uncounted-ids ms)
+
+uncounted-every : (r : ℕ) (xs : List ℕ) (ms : List Member) → every (idealMember r xs) (map (withSteps 0) ms) ≡ every (idealMember r xs) ms
+unfolding idealMember
+uncounted-every r xs [] = refl
+uncounted-every r xs (m ∷ ms) = ap (λ (b : Bool). idealMember r xs m && b) (uncounted-every r xs ms)
+
 ideal-uncounted : (T : Table) → ideal (uncounted T) ≡ ideal T
 unfolding ideal
-ideal-uncounted T = refl
+ideal-uncounted T = rw (uncounted-ids (T .members)) (uncounted-every (T .r) (ids (T .members)) (T .members))
 
 -- One sound table
 
@@ -114,7 +124,7 @@ module _ (T : Table) (k : Kept T) where
       subst (λ (U : Table). Rights r U) (ap (afterRounds (j - (others + r))) (sym (rounds-add (suc others) (r - 1) (others + r) T (omega arith)))
       ∙ sym (rounds-add (others + r) (j - (others + r)) j T (omega arith))) c
 
-  -- the members are then those of the new table: so the table is ideal, and a round changes the step count only
+  -- the members are then those of the new table but for their counts: so the table is ideal, and a round changes step counts only
 
   right-table : (U : Table) → Rights r U → uncounted U ≡ newTable r xs
   right-table U v = ap₂ tableWith (v .all .common .is-r) (rest-members xs (k .formed .ids-rising) some pr r U v)
@@ -180,7 +190,7 @@ rounds-on j n m ws s q =
 
 -- the slice after k rounds is the table after k rounds, written over it
 rounds-are : (j : ℕ) (ws : List ℕ) → Good ws → rounds j ws ≡ written (afterRounds j (tableOf ws)) ws
-rounds-are zero ws s = let f = wellFormed-facts ws (s .well-formed) in sym (written-same ws (f .header) (f .fits))
+rounds-are zero ws s = let f = wellFormed-facts ws (s .well-formed) in sym (written-same ws (f .own-header) (f .fits))
 rounds-are (suc j) ws s = rounds-are j (roundWords ws) (round-slice ws s) ∙ ap (λ (us : List ℕ). written (afterRounds j (tableOf us)) us) (round-is ws s) ∙ rounds-on 1 j (suc j) ws s (omega arith)
 
 -- what members - principals + r is in terms of those that are no principals
@@ -279,7 +289,7 @@ settle-leaves ws wf so limit =
 -- rounds and settles run rounds
 upkeep-is : (ss : List Service) (ws : List ℕ) → Good ws → every isUpkeep ss ≡ true → afterAll serviceWords ss ws ≡ written (afterRounds (roundsIn ss ws) (tableOf ws)) ws
 unfolding serviceWords
-upkeep-is [] ws s h = let f = wellFormed-facts ws (s .well-formed) in sym (written-same ws (f .header) (f .fits))
+upkeep-is [] ws s h = let f = wellFormed-facts ws (s .well-formed) in sym (written-same ws (f .own-header) (f .fits))
 upkeep-is (Called c ∷ ss) ws s h = absurd (false≢true h)
 upkeep-is (Round ∷ ss) ws s h = upkeep-is ss (roundWords ws) (round-slice ws s) h
     ∙ ap (λ (us : List ℕ). written (afterRounds (roundsIn ss (roundWords ws)) (tableOf us)) us) (round-is ws s)

@@ -1,6 +1,6 @@
 -- A turn of n on a sound table: its steps end with "done", never by the bound; and it leaves n calm, with a live successor that n has met and nothing
 -- pending. So n stays, through the turns of others.
-use mathlib.Core.Path.{_≡_, refl, sym, ap, subst, _∙_}
+use mathlib.Core.Path.{_≡_, refl, sym, ap, _∙_}
 use mathlib.Core.Logic.{_⊎_, inl, inr}
 use mathlib.Core.Bool.{Bool, true, false, not, _||_, true≢false}
 use mathlib.Core.List.{List}
@@ -12,7 +12,7 @@ use Rattle.model.specs.Lists.{if_then_else_}
 use Rattle.model.specs.Identifier.{between}
 use Rattle.model.specs.Table.{Member, Table, spaceOf, ids}
 use Rattle.model.specs.Ring.{live, named, successor, isPending}
-use Rattle.model.specs.Steps.{withPredecessor, adopt, awaitCandidate, dropHead, offered, isBetter, stabilized, renews, rectified}
+use Rattle.model.specs.Steps.{withPredecessor, adopt, awaitCandidate, dropHead, offered, isBetter, stabilized, renews, rectified, stabilize, countStep}
 use Rattle.model.specs.Settle.{delivered, nextReply, isDone, lastStep, finished, untilDone, afterTurn}
 use Rattle.laws.specs.Order.{equal?, Inside, Outside, below, beyond, rest, mid, high, low, inside?, inside-outside, false-outside, inner-from}
 use Rattle.laws.specs.Lists.{In, found, live-in, in-live}
@@ -77,6 +77,9 @@ module _ (n : ℕ) (T : Table) where
   by-reply : (l : List ℕ) → l ≡ nextReply n T → isDone n T ≡ eqb (getD l 0 0) 2
   by-reply l e = ap (λ (k : List ℕ). eqb (getD k 0 0) 2) (sym e)
 
+  next-case : NextCase (nextReply n T) (stabilize (spaceOf T) (T .members) m)
+  next-case = step-case (spaceOf T) (T .members) m
+
   pub pending-done : isPending m ≡ true → isDone n T ≡ true
   pending-done p = by-reply _ (done-pending (T .members) m p)
 
@@ -87,16 +90,17 @@ module _ (n : ℕ) (T : Table) where
   settles-done p l b = by-reply _ (reply-done (T .members) m p l b)
 
   module _ (k : Kept T) (i : In n (ids (T .members))) where
-    next-case : NextCase (nextReply n T) (named (stabilized n T .members) n)
-    next-case = subst (NextCase (nextReply n T)) (sym (stepped-named T k n i)) (step-case (spaceOf T) (T .members) m)
+    -- what a case leaves, counted, is n's record then
+    next-named : {u : Member} → u ≡ stabilize (spaceOf T) (T .members) m → named (stabilized n T .members) n ≡ countStep u
+    next-named e = stepped-named T k n i ∙ ap countStep (sym e)
 
     pub left-looks : isPending m ≡ false → live (T .members) (succOf T n) ≡ true → isBetter (T .members) m ≡ true
-        → named (stabilized n T .members) n ≡ awaitCandidate (offered (T .members) m) (adopt (succOf T n) (named (T .members) (succOf T n) .successors) m)
-    left-looks p l b = stepped-named T k n i ∙ sym (step-live (T .members) m (spaceOf T) p l) ∙ sym (offered-better (T .members) m b)
+        → named (stabilized n T .members) n ≡ countStep (awaitCandidate (offered (T .members) m) (adopt (succOf T n) (named (T .members) (succOf T n) .successors) m))
+    left-looks p l b = next-named (offered-better (T .members) m b ∙ step-live (T .members) m (spaceOf T) p l)
 
     pub left-settles : isPending m ≡ false → live (T .members) (succOf T n) ≡ true → isBetter (T .members) m ≡ false
-        → named (stabilized n T .members) n ≡ adopt (succOf T n) (named (T .members) (succOf T n) .successors) m
-    left-settles p l b = stepped-named T k n i ∙ sym (step-live (T .members) m (spaceOf T) p l) ∙ sym (offered-no-better (T .members) m b)
+        → named (stabilized n T .members) n ≡ countStep (adopt (succOf T n) (named (T .members) (succOf T n) .successors) m)
+    left-settles p l b = next-named (offered-no-better (T .members) m b ∙ step-live (T .members) m (spaceOf T) p l)
 
 -- The steps of a turn end with "done": a live entry stands at place j of the list, "again" drops one before it, and two steps more are enough
 
@@ -118,7 +122,7 @@ module _ (n : ℕ) where
       dropped zero a h d ih = absurd (true≢false (sym (a .lives) ∙ d))
       dropped (suc j) a h d ih = ih j (in-front (ids (T .members)) (named (T .members) n .successors) _ j a) (omega arith)
 
-      on : {l : List ℕ} {u : Member} → eqb (getD l 0 0) 2 ≡ false → NextCase n T l u → named (stabilized n T .members) n ≡ u → ((j : ℕ) → Later f T u j)
+      on : {l : List ℕ} {u : Member} → eqb (getD l 0 0) 2 ≡ false → NextCase n T l u → named (stabilized n T .members) n ≡ countStep u → ((j : ℕ) → Later f T u j)
           → UntilDone n (stabilized n T) (untilDone f n (stabilized n T))
       on e (takes p l) q ih = absurd (true≢false e)
       on e (clears p l) q ih = absurd (true≢false e)
@@ -129,9 +133,7 @@ module _ (n : ℕ) where
       go : (b : Bool) → isDone n T ≡ b → ((j : ℕ) → LiveAt (ids (stabilized n T .members)) (named (stabilized n T .members) n .successors) j → suc (suc j) ≤ f
           → UntilDone n (stabilized n T) (untilDone f n (stabilized n T))) → UntilDone n T (if b then lastStep n T else untilDone f n (stabilized n T))
       go true e ih = last e
-      go false e ih = more e (on e (next-case n T k i) refl
-          (λ j b g. ih j (subst (λ (xs : List ℕ). LiveAt xs (named (stabilized n T .members) n .successors) j) (sym (acted-step T k n i .lasts .same-ids)) b)
-          g))
+      go false e ih = more e (on e (next-case n T) (next-named n T k i refl) (λ j b g. ih j (rw (acted-step T k n i .lasts .same-ids, next-named n T k i refl) b) g))
 
   -- on a sound table with n a bound of r + 1 steps or more is never what ends them
   until-done : (f : ℕ) (T : Table) → Kept T → In n (ids (T .members)) → suc (T .r) ≤ f → UntilDone n T (untilDone f n T)
@@ -164,7 +166,10 @@ module _ (n : ℕ) where
     -- by the step that replies "done"
     done-head : isDone n T ≡ true → Ready T → Heads (stabilized n T) (getD (nextReply n T) 1 0)
     unfolding Ready
-    done-head e ready = let h = go e (next-case n T k i) in record { quiet = h .0; is = h .1; lives = in-next (h .2) }
+    done-head e ready =
+        let h = go e (next-case n T) in
+        let q = next-named n T k i refl in
+        record { quiet = ap isPending q ∙ h .0; is = ap successor q ∙ h .1; lives = in-next (h .2) }
       where
         go : {l : List ℕ} {u : Member} → eqb (getD l 0 0) 2 ≡ true → NextCase n T l u → (isPending u ≡ false) × (successor u ≡ getD l 1 0) × (live (T .members) (getD l 1 0) ≡ true)
         go e (takes p l) = (refl, refl, l)
@@ -176,7 +181,9 @@ module _ (n : ℕ) where
     -- by the step before it
     next-ready : isDone n T ≡ false → Ready (stabilized n T)
     unfolding Ready
-    next-ready e q = in-live (stabilized n T .members) (in-next (go e (next-case n T k i) q))
+    next-ready e q =
+        let c = next-named n T k i refl in
+        in-live (stabilized n T .members) (rw c (in-next (go e (next-case n T) (sym (ap isPending c) ∙ q))))
       where
         go : {l : List ℕ} {u : Member} → eqb (getD l 0 0) 2 ≡ false → NextCase n T l u → isPending u ≡ true → live (T .members) (successor u) ≡ true
         go e (takes p l) q = absurd (true≢false e)
@@ -244,7 +251,7 @@ module _ (n : ℕ) where
       quiet e (settles p l b) = p
 
       go : (b : Bool) → isPending (named (T .members) n) ≡ b → isPending (named ((if b then delivered n (getD (nextReply n T) 1 0) (stabilized n T) else T) .members) n) ≡ false
-      go true e = delivered-list n _ (stabilized n T) (acted-step T k n i .lasts .kept) n .is-pending ∙ quiet e (next-case n T k i)
+      go true e = delivered-list n _ (stabilized n T) (acted-step T k n i .lasts .kept) n .is-pending ∙ ap isPending (next-named n T k i refl) ∙ quiet e (next-case n T)
       go false e = e
 
   pub calm-turn : (T : Table) → Kept T → In n (ids (T .members)) → Calm (afterTurn n T) n

@@ -11,7 +11,7 @@ use borrow.Author.Tests.{eqb-true, eqb-false, not-true}
 use Rattle.model.specs.Table.{Member, Table, spaceOf, ids, tableOf, membersIn, wellFormed}
 use Rattle.model.specs.Ring.{live, named, successor, principal, Search, bestSuccessor}
 use Rattle.model.specs.Answer.{Answer, accepted, answer, afterwards}
-use Rattle.model.specs.Steps.{joiner, inserted, joined, stabilize, stabilizeReply, stabilized, replaced, rectifyIn, rectified}
+use Rattle.model.specs.Steps.{joiner, inserted, joined, stabilize, stabilizeReply, stabilized, replaced, rectifyIn, rectified, countStep}
 use Rattle.model.specs.Settle.{afterRound, afterRounds, roundsRun}
 use Rattle.model.specs.Refusals.{joinRefusal, memberRefusal, leaveRefusal, settleRefusal}
 use Rattle.model.specs.Calls.{written, joinAnswer, joinWords, stabilizeAnswer, stabilizeWords, rectifyWords, failAnswer, failWords, leaveAnswer, leaveWords, roundWords, settleWords}
@@ -141,7 +141,7 @@ module _ (ws : List ℕ) where
             let i = live-in ms m (member-accepted ws m e) in
             let same : stabilize (spaceOf (tableOf ws)) ms (named ms m) .id ≡ m = same-id ms (named ms m) (spaceOf (tableOf ws)) ∙ found ms i .1 in
             read-headed (stabilized m (tableOf ws)) ws (stabilized-read ws m e)
-            (replaced-headed ms (stabilize (spaceOf (tableOf ws)) ms (named ms m)) n h (subst (λ (x : ℕ). In x (ids ms)) (sym same) i)
+            (replaced-headed ms (countStep (stabilize (spaceOf (tableOf ws)) ms (named ms m))) n h (subst (λ (x : ℕ). In x (ids ms)) (sym same) i)
             (λ q. stabilize-head (spaceOf (tableOf ws)) ms (named ms m) (subst (λ (x : ℕ). live ms (successor (named ms x)) ≡ true) (sym q ∙ same) (h .first-live)))
             (low _ (member-table ws m e) (stabilize-listed ws m e)))
 

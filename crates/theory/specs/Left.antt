@@ -10,7 +10,7 @@ use Rattle.model.specs.Lists.{lastOf}
 use Rattle.model.specs.Identifier.{after}
 use Rattle.model.specs.Table.{Member, spaceOf, tableOf, membersIn, wellFormed}
 use Rattle.model.specs.Ring.{live, named, successor}
-use Rattle.model.specs.Steps.{joiner, joined, adopt, stabilize, stabilized, rectifyIn, rectified, isNamed, without}
+use Rattle.model.specs.Steps.{joiner, joined, adopt, stabilize, stabilized, rectifyIn, rectified, isNamed, without, countStep}
 use Rattle.model.specs.Refusals.{joinRefusal, memberRefusal, leaveRefusal}
 use Rattle.model.specs.Calls.{written, writtenFreed, stabilizeWords, failWords, leaveWords}
 use Rattle.laws.specs.Lists.{In, found, live-in}
@@ -83,7 +83,7 @@ module _ (ws : List ℕ) where
 
   pub stabilized-read : (n : ℕ) → memberRefusal ws n ≡ 0 → tableOf (written (stabilized n (tableOf ws)) ws) ≡ stabilized n (tableOf ws)
   stabilized-read n e =
-      let v = stabilize (spaceOf (tableOf ws)) (membersIn ws) (named (membersIn ws) n) in
+      let v = countStep (stabilize (spaceOf (tableOf ws)) (membersIn ws) (named (membersIn ws) n)) in
       written-table (stabilized n (tableOf ws)) ws (changed-lists (tableOf ws .r) (membersIn ws) _ v (lists-in (member-table ws n e)) (stabilize-listed n e) (replaced-changed v (membersIn ws)))
 
   pub rectified-read : (n q : ℕ) → memberRefusal ws n ≡ 0 → tableOf (written (rectified n q (tableOf ws)) ws) ≡ rectified n q (tableOf ws)

@@ -26,6 +26,8 @@ pub mod Rounds
 pub mod Far
 pub mod Right
 pub mod BoundProof
+pub mod Counts
+pub mod CountsProof
 pub mod Passed
 pub mod Joins
 pub mod Served

@@ -110,7 +110,7 @@ ups-skip xs a zero x q i = refl
 ups-skip xs a (suc n) x q i = rw (outside-false (up-spares xs a x q i)) (ups-skip xs a n (nextUp xs x) q i)
 
 -- what holds of each record of the new table holds of each of its members
-each-new : (P : Member → Type 0) (r : ℕ) (xs : List ℕ) → ((x : ℕ) → In x xs → P (newMember r xs x)) → (m : Member) → In m (newTable r xs .members) → P m
+pub each-new : (P : Member → Type 0) (r : ℕ) (xs : List ℕ) → ((x : ℕ) → In x xs → P (newMember r xs x)) → (m : Member) → In m (newTable r xs .members) → P m
 each-new P r xs f m i = let w = in-map (newMember r xs) xs i in rw (w .2) (f (w .0) (w .1))
 
 -- The new table, of r and identifiers that 11 does not decline

@@ -1,6 +1,6 @@
 -- From right successors on, each round makes one more entry of every list right. Where all are, a round leaves every record as it is: the members are those
 -- of the new table.
-use mathlib.Core.Path.{_≡_, refl, sym, ap, subst, _∙_}
+use mathlib.Core.Path.{_≡_, refl, sym, ap, ap₂, subst, _∙_}
 use mathlib.Core.Logic.{_⊎_, inl, inr}
 use mathlib.Core.Bool.{Bool, false}
 use mathlib.Core.List.{List, [], _∷_, map}
@@ -12,6 +12,7 @@ use borrow.Author.Tests.{eqb-false}
 use Rattle.model.specs.Lists.{withoutLast}
 use Rattle.model.specs.Table.{Member, Table, ids}
 use Rattle.model.specs.Ring.{named, isPending, nextUp, nextDown, nextUps}
+use Rattle.model.specs.Steps.{withSteps}
 use Rattle.model.specs.New.{newMember}
 use Rattle.model.specs.Settle.{afterTurn, afterRound}
 use Rattle.laws.specs.Order.{equal?, inside-outside}
@@ -29,9 +30,9 @@ take-ups (suc j) zero xs x h = absurd (omega arith)
 take-ups (suc j) (suc n) xs x h = ap (λ (l : List ℕ). nextUp xs x ∷ l) (take-ups j n xs (nextUp xs x) (omega arith))
 
 -- members that are all made from their identifiers
-all-made : (f : ℕ → Member) (ms : List Member) → ((m : Member) → In m ms → m ≡ f (m .id)) → ms ≡ map f (ids ms)
-all-made f [] h = refl
-all-made f (m ∷ ms) h = ap (λ (k : Member). k ∷ ms) (h m (here refl)) ∙ ap (λ (l : List Member). f (m .id) ∷ l) (all-made f ms (λ k i. h k (there i)))
+all-made : (g : Member → Member) (f : ℕ → Member) (ms : List Member) → ((m : Member) → In m ms → g m ≡ f (m .id)) → map g ms ≡ map f (ids ms)
+all-made g f [] h = refl
+all-made g f (m ∷ ms) h = ap₂ (λ (k : Member) (l : List Member). k ∷ l) (h m (here refl)) (all-made g f ms (λ k i. h k (there i)))
 
 module _ (xs : List ℕ) (rise : Rising xs) (some : 1 ≤ length xs) (pr : ℕ → Bool) (r : ℕ) where
   abbrev listOf : Table → ℕ → List ℕ
@@ -107,14 +108,14 @@ module _ (xs : List ℕ) (rise : Rising xs) (some : 1 ≤ length xs) (pr : ℕ �
       go (by-own e) = e
       go (by-nearer j h) = absurd (inside-outside h (down-spares xs rise x (predOf T x) i (rw (v .all .common .is-ids) at j)))
 
-  -- where all entries are right, all is
-  pub rest-members : (T : Table) → Right r T → T .members ≡ map (newMember r xs) xs
-  rest-members T v = subst (λ (l : List ℕ). T .members ≡ map (newMember r xs) l) (c .is-ids) (all-made (newMember r xs) (T .members) made)
+  -- where all entries are right, all is, but for the step counts
+  pub rest-members : (T : Table) → Right r T → map (withSteps 0) (T .members) ≡ map (newMember r xs) xs
+  rest-members T v = subst (λ (l : List ℕ). map (withSteps 0) (T .members) ≡ map (newMember r xs) l) (c .is-ids) (all-made (withSteps 0) (newMember r xs) (T .members) made)
     where
       c : Common r xs pr T
       c = v .all .common
 
-      made : (m : Member) → In m (T .members) → m ≡ newMember r xs (m .id)
+      made : (m : Member) → In m (T .members) → withSteps 0 m ≡ newMember r xs (m .id)
       made m i =
           let f = c .kept .formed .each m i in
           let ix : In (m .id) xs = rw (c .is-ids) at (in-ids i) in
@@ -123,4 +124,4 @@ module _ (xs : List ℕ) (rise : Rising xs) (some : 1 ≤ length xs) (pr : ℕ �
           let list : m .successors ≡ nextUps r xs (m .id) = sym (take-all r (m .successors) (omega (arith, f .list-length, c .is-r)))
           ∙ subst (λ (u : Member). take r (u .successors) ≡ nextUps r xs (m .id)) q (v .lists (m .id) ix) in
           let down : m .predecessor ≡ nextDown xs (m .id) = subst (λ (u : Member). u .predecessor ≡ nextDown xs (m .id)) q (right-predecessor r T v (m .id) ix) in
-          λ k. record { id = m .id; predecessor = down k; pending = none k; candidate = f .no-candidate none k; successors = list k }
+          λ k. record { id = m .id; predecessor = down k; pending = none k; candidate = f .no-candidate none k; successors = list k; steps = 0 }

@@ -9,7 +9,7 @@ use Rattle.model.specs.Lists.{withoutLast}
 use Rattle.model.specs.Identifier.{between}
 use Rattle.model.specs.Table.{Member, Table, spaceOf, ids}
 use Rattle.model.specs.Ring.{live, named, isPending, principal}
-use Rattle.model.specs.Steps.{adopt, isBetter, stabilizeFromPredecessor, stabilized}
+use Rattle.model.specs.Steps.{adopt, isBetter, stabilizeFromPredecessor, stabilized, countStep}
 use Rattle.model.specs.Settle.{isDone, lastStep, finished, afterTurn, afterTurns, afterRound}
 use Rattle.laws.specs.Order.{equal?, Inside, Outside, inside?, inside-true, outside-false, inside-ends}
 use Rattle.laws.specs.Lists.{In, here, there, in-cons, in-nil, found, in-live}
@@ -66,7 +66,7 @@ module _ (n : ℕ) where
     pub turn-same : predOf T (succOf T n) ≡ n → afterTurn n T ≡ lastStep n T
     turn-same e = one from-here (settles-done n T (c .quiet) head-live (no-better e))
 
-    pub same-record : predOf T (succOf T n) ≡ n → named (stabilized n T .members) n ≡ adopt (succOf T n) (named (T .members) (succOf T n) .successors) (named (T .members) n)
+    pub same-record : predOf T (succOf T n) ≡ n → named (stabilized n T .members) n ≡ countStep (adopt (succOf T n) (named (T .members) (succOf T n) .successors) (named (T .members) n))
     same-record e = left-settles n T k i (c .quiet) head-live (no-better e)
 
     -- it has a nearer one, which is looked at and taken
@@ -96,7 +96,7 @@ module _ (n : ℕ) where
           let lp : live (U .members) p ≡ true = in-live (U .members) (rw (a .lasts .same-ids) j) in
           ap (λ (X : Table). named (X .members) n .successors) turn-nearer
           ∙ last-list U (a .lasts .kept) iU
-          ∙ ap (λ (x : Member). x .successors) (stepped-named U (a .lasts .kept) n iU ∙ sym (step-pending (U .members) v (spaceOf U) waits))
+          ∙ ap (λ (x : Member). x .successors) (stepped-named U (a .lasts .kept) n iU ∙ ap countStep (sym (step-pending (U .members) v (spaceOf U) waits)))
           ∙ taken (U .members) v (ap (live (U .members)) is-p ∙ lp)
           ∙ ap (λ (x : ℕ). x ∷ withoutLast (named (U .members) x .successors)) is-p
           ∙ ap (λ (l : List ℕ). p ∷ withoutLast l) (a .others p (inside-ends h .0) .list)

@@ -10,7 +10,7 @@ use borrow.Author.Tests.{ltb-true, eqb-true, eq-eqb}
 use Rattle.model.specs.Lists.{every}
 use Rattle.model.specs.Table.{Member, Table, spaceOf, headerSize, recordSize, size, tableOf, membersIn, wellFormed}
 use Rattle.model.specs.Ring.{named, sound}
-use Rattle.model.specs.Steps.{joiner, joined, stabilize, stabilized, replaced, rectifyIn, rectified, isNamed, without}
+use Rattle.model.specs.Steps.{joiner, joined, stabilize, stabilized, replaced, rectifyIn, rectified, isNamed, without, countStep}
 use Rattle.model.specs.Answer.{afterwards}
 use Rattle.model.specs.Fold.{afterAll, eachMeets}
 use Rattle.model.specs.Refusals.{joinRefusal, memberRefusal, leaveRefusal}
@@ -81,7 +81,7 @@ module _ (ws : List ℕ) (g : Good ws) where
     where
       go : memberRefusal ws n ≡ 0 → Good (written (stabilized n (tableOf ws)) ws)
       go e = written-good (stabilized n (tableOf ws)) ws (stabilized-kept (tableOf ws) k n (member-accepted ws n e))
-          (replaced-size (stabilize (spaceOf (tableOf ws)) (membersIn ws) (named (membersIn ws) n)))
+          (replaced-size (countStep (stabilize (spaceOf (tableOf ws)) (membersIn ws) (named (membersIn ws) n))))
 
   rectify-good : (n q : ℕ) → q < spaceOf (tableOf ws) → Good (rectifyWords ws n q)
   unfolding rectifyWords

@@ -12,7 +12,7 @@ use Rattle.model.specs.Lists.{if_then_else_, any, lastOf, withoutLast}
 use Rattle.model.specs.Identifier.{between, after}
 use Rattle.model.specs.Table.{Member, Table, spaceOf, ids, wordLimit}
 use Rattle.model.specs.Ring.{live, named, successor, skips, principal, isPending, candidateInside}
-use Rattle.model.specs.Steps.{withMembers, withSteps, withPending, withPredecessor, joiner, inserted, joined, dropHead, adopt, clearPending, offered, stabilize, nextStep, replaced, stabilized, renews, rectifyIn, rectified, withoutThose}
+use Rattle.model.specs.Steps.{withMembers, withPending, withPredecessor, joiner, inserted, joined, dropHead, adopt, clearPending, offered, stabilize, nextStep, replaced, stabilized, renews, rectifyIn, rectified, withoutThose, countStep}
 use Rattle.model.specs.Refusals.{cutsOff, tooFewPrincipals}
 use Rattle.laws.specs.Order.{true-inside, outside-false, false-outside, inner, inner-from, after-lt, after-outside}
 use Rattle.laws.specs.Lists.{or-false, implied, In, there, in-cons, in-nil, in-left, in-append, length-ids, found, live-in, in-live, every-in, any-in, in-any}
@@ -64,10 +64,13 @@ nextStep-small s h = go (ltb (suc s) wordLimit) refl
     go false e = h
 
 -- the step count is no part of what makes a table sound
-counted-kept : (U : Table) → Kept U → Kept (withSteps (nextStep (U .steps)) U)
-counted-kept U u = record {
-  formed = steps-formed (u .formed) _ (nextStep-small (U .steps) (u .formed .steps-small));
-  is-sound = record { live-entry = u .is-sound .live-entry; enough = u .is-sound .enough; candidate-inside = u .is-sound .candidate-inside };
+counted-fresh : (T : Table) (v : Member) → Fresh T v → Fresh T (countStep v)
+unfolding candidateInside
+counted-fresh T v f = record {
+  formed = steps-formed (f .formed) _ (nextStep-small (v .steps) (f .formed .steps-small));
+  live-entry = f .live-entry;
+  candidate-inside = f .candidate-inside;
+  spares = f .spares;
 }
 
 module _ (T : Table) (k : Kept T) where
@@ -158,8 +161,8 @@ module _ (T : Table) (k : Kept T) where
     offered-small j = right (found (T .members) j .0) .predecessor-small
 
     -- one stabilize step, whichever of its five cases
-    pub stabilize-fresh : Fresh T (stabilize (spaceOf T) (T .members) m)
-    stabilize-fresh = go (step-case (spaceOf T) (T .members) m)
+    pub stabilize-fresh : Fresh T (countStep (stabilize (spaceOf T) (T .members) m))
+    stabilize-fresh = counted-fresh T _ (go (step-case (spaceOf T) (T .members) m))
       where
         go : {l : List ℕ} {u : Member} → StepCase (spaceOf T) (T .members) m l u → Fresh T u
         go (takes p l) = adopt-fresh (m .candidate) 0 0 (live-in (T .members) (m .candidate) l) (candidate-spares p) (omega arith) (λ q. refl) zero-small refl
@@ -213,6 +216,5 @@ module _ (T : Table) (k : Kept T) where
   without-kept gone six seven = record { formed = staying-formed gone T (k .formed); is-sound = staying-sound gone T (k .is-sound) six seven }
 
   pub stabilized-kept : (n : ℕ) → live (T .members) n ≡ true → Kept (stabilized n T)
-  stabilized-kept n e =
-      let v = stabilize (spaceOf T) (T .members) (named (T .members) n) in
-      counted-kept (withMembers (replaced v (T .members)) T) (replaced-kept v (stabilize-fresh (named (T .members) n) (found (T .members) (live-in (T .members) n e) .0)))
+  stabilized-kept n e = replaced-kept (countStep (stabilize (spaceOf T) (T .members) (named (T .members) n)))
+      (stabilize-fresh (named (T .members) n) (found (T .members) (live-in (T .members) n e) .0))

@@ -12,7 +12,7 @@ use Rattle.model.specs.Lists.{if_then_else_, contains}
 use Rattle.model.specs.Identifier.{between}
 use Rattle.model.specs.Table.{Member, Table, spaceOf, size, ids}
 use Rattle.model.specs.Ring.{live, named, isPending, principal}
-use Rattle.model.specs.Steps.{withPredecessor, stabilize, replaced, stabilized, renews, rectifyIn, rectified}
+use Rattle.model.specs.Steps.{withPredecessor, stabilize, replaced, stabilized, renews, rectifyIn, rectified, countStep}
 use Rattle.model.specs.Settle.{delivered, isDone, lastStep, finished, untilDone, afterTurn, afterTurns, afterRound, afterRounds}
 use Rattle.laws.specs.Order.{equal?, Inside, true-inside}
 use Rattle.laws.specs.Lists.{In, here, there, length-ids, found, live-in, in-live}
@@ -123,13 +123,13 @@ module _ (T : Table) (k : Kept T) (n : ℕ) (i : In n (ids (T .members))) where
   stepped-id : stabilize (spaceOf T) (T .members) (named (T .members) n) .id ≡ n
   stepped-id = same-id (T .members) (named (T .members) n) (spaceOf T) ∙ found (T .members) i .1
 
-  pub stepped-named : named (stabilized n T .members) n ≡ stabilize (spaceOf T) (T .members) (named (T .members) n)
-  stepped-named = placed (stabilize (spaceOf T) (T .members) (named (T .members) n)) stepped-id
+  pub stepped-named : named (stabilized n T .members) n ≡ countStep (stabilize (spaceOf T) (T .members) (named (T .members) n))
+  stepped-named = placed (countStep (stabilize (spaceOf T) (T .members) (named (T .members) n))) stepped-id
 
   pub acted-step : Acted n T (stabilized n T)
   acted-step =
       let ms = T .members in
-      let v = stabilize (spaceOf T) ms (named ms n) in
+      let v = countStep (stabilize (spaceOf T) ms (named ms n)) in
       record {
         lasts = record {
           kept = stabilized-kept T k n (in-live ms i);

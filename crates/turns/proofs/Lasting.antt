@@ -29,7 +29,7 @@ stands-in {ws} {k} s = subst (λ (x : ℕ). In x (ids (membersIn ws))) (s .has-i
 module _ {ws : List ℕ} (g : Good ws) where
   -- before the first turn
   pub lasting-none : Lasting ws ws
-  lasting-none = let w = wellFormed-facts ws (g .well-formed) in record { in-place = sym (written-same ws (w .header) (w .fits)); as-long = refl; lasts = lasts-none (tableOf ws) (good-kept ws g) }
+  lasting-none = let w = wellFormed-facts ws (g .well-formed) in record { in-place = sym (written-same ws (w .own-header) (w .fits)); as-long = refl; lasts = lasts-none (tableOf ws) (good-kept ws g) }
 
   -- a table that lasts, put in the place of that of ws
   module _ (T : Table) (l : Lasts (tableOf ws) T) where

@@ -1,12 +1,12 @@
 -- One record's words: how many records take, and what the loops that read and write one reach. Assumes nothing.
-use Prim.Native.Nat.{ℕ, _+_, _*_, _≤_, _<_}
+use Prim.Native.Nat.{ℕ, suc, _+_, _*_, _≤_, _<_}
 use mathlib.Core.Path.{_≡_, sym, ap, _∙_}
-use mathlib.Core.List.{List, [], _∷_, _++_}
+use mathlib.Core.List.{List, [], _∷_, _++_, append-assoc}
 use native.Mathlib.Nat.{mul-le-mul-right, le-trans, add-comm}
 use native.Mathlib.Numerals.{add-one, add-four}
 use native.Mathlib.Omega.{arith}
 use lib.ListN.{length, getD, take, drop, set, length-drop}
-use lib.Seq.{take-suc, take-suc-set, take-take, getD-drop, paste}
+use lib.Seq.{take-suc, take-suc-set, take-take, getD-drop, drop-cons, length-take-le, set-at, sets, sets-eq, paste}
 use Rattle.model.specs.Table.{recordSize}
 use Rattle.laws.specs.Parts.{eight, take-eight}
 
@@ -26,9 +26,26 @@ entries-at-once r ws h k =
     ap (take r) (sym (take-eight (drop 4 ws) (rw length-drop (omega arith)) ∙ said)) ∙ take-take r 8 (drop 4 ws) h
 
 -- `write_member`: four words stored, and then r entries copied
-pub entries-written : (a b c d : ℕ) (l s : List ℕ) (r : ℕ) → 4 ≤ length l → paste (set (set (set (set l 0 a) 1 b) 2 c) 3 d) 4 s r ≡ (a ∷ b ∷ c ∷ d ∷ take r s) ++ drop (4 + r) l
+entries-written : (a b c d : ℕ) (l s : List ℕ) (r : ℕ) → 4 ≤ length l → paste (set (set (set (set l 0 a) 1 b) 2 c) 3 d) 4 s r ≡ (a ∷ b ∷ c ∷ d ∷ take r s) ++ drop (4 + r) l
 entries-written a b c d [] s r h = absurd (omega arith)
 entries-written a b c d (x ∷ []) s r h = absurd (omega arith)
 entries-written a b c d (x ∷ y ∷ []) s r h = absurd (omega arith)
 entries-written a b c d (x ∷ y ∷ z ∷ []) s r h = absurd (omega arith)
 entries-written a b c d (x ∷ y ∷ z ∷ u ∷ l) s r h = rw (add-comm 4 r, add-four)
+
+-- and then the step count stored after them
+pub count-written : (a b c d e : ℕ) (l s : List ℕ) (r : ℕ) → r ≤ length s → recordSize r ≤ length l
+    → set (paste (set (set (set (set l 0 a) 1 b) 2 c) 3 d) 4 s r) (4 + r) e ≡ (a ∷ b ∷ c ∷ d ∷ (take r s ++ (e ∷ []))) ++ drop (recordSize r) l
+count-written a b c d e l s r hs hl =
+    let p : List ℕ = a ∷ b ∷ c ∷ d ∷ take r s in
+    let n : length p ≡ 4 + r = omega (arith, length-take-le r s hs) in
+    let q : suc (4 + r) ≡ recordSize r = omega arith in
+    ap (λ (k : List ℕ). set k (4 + r) e) (entries-written a b c d l s r (omega arith) ∙ ap (λ (k : List ℕ). p ++ k) (drop-cons l (4 + r) 0 (omega arith)))
+    ∙ set-at p (getD l (4 + r) 0) (drop (suc (4 + r)) l) e (4 + r) n
+    ∙ sym (append-assoc p (e ∷ []) (drop (suc (4 + r)) l))
+    ∙ ap (λ (k : ℕ). (p ++ (e ∷ [])) ++ drop k l) q
+
+-- eight entries stored one after the other
+pub eight-written : (a b c d e : ℕ) (l s : List ℕ) → 8 ≤ length s → recordSize 8 ≤ length l
+    → sets l 0 (a ∷ b ∷ c ∷ d ∷ (eight s ++ (e ∷ []))) ≡ (a ∷ b ∷ c ∷ d ∷ (take 8 s ++ (e ∷ []))) ++ drop (recordSize 8) l
+eight-written a b c d e l s hs hl = rw (take-eight s hs) (sets-eq (a ∷ b ∷ c ∷ d ∷ (eight s ++ (e ∷ []))) l 0 hl)

@@ -7,7 +7,7 @@ ghost use Rattle.model.specs.Table.{headerSize, recordSize, memberOf, recordOf}
 ghost use Rattle.member.specs.View.{view};
 use member::Member;
 
-// The words of the header, by their places: r, member count, step count.
+// The words of the header, by their places: r, member count, and a step count that is 0 always.
 pub const R: usize = 0;
 
 pub const COUNT: usize = 1;
@@ -17,7 +17,7 @@ pub const STEPS: usize = 2;
 // How many they are.
 pub const HEADER: usize = 3;
 
-// The words of a record, by their places: identifier, predecessor, pending, candidate, and from LIST on its list.
+// The words of a record, by their places: identifier, predecessor, pending, candidate, and from LIST on its list; the step count stands after the list.
 pub const ID: usize = 0;
 
 pub const PREDECESSOR: usize = 1;
@@ -29,14 +29,14 @@ pub const CANDIDATE: usize = 3;
 pub const LIST: usize = 4;
 
 // The words of the longest table: 256 records with lists of 8.
-pub const LONGEST: usize = HEADER + 256 * (LIST + 8);
+pub const LONGEST: usize = HEADER + 256 * (LIST + 8 + 1);
 
 // The words of one record.
 pub fn record_size(r: usize) -> usize
     requires { ⌜ r ≤ 255 ⌝ }
     ensures { λ w. ⌜ w ≡ recordSize r ⌝ }
 {
-    LIST + r
+    LIST + r + 1
 }
 
 // The records of a table: what stands after its header.
@@ -76,6 +76,7 @@ pub fn read_member(part: &[u32], r: usize) -> Member
                 part[10],
                 part[11],
             ],
+            steps: part[LIST + r],
         };
     }
     let mut l = [0u32; 8];
@@ -90,10 +91,11 @@ pub fn read_member(part: &[u32], r: usize) -> Member
         pending: part[PENDING],
         candidate: part[CANDIDATE],
         successors: l,
+        steps: part[LIST + r],
     }
 }
 
-// One member's record, written to the front of a part; what stands after it stays.
+// One member's record, written to the front of a part, eight entries at once where it has so many; what stands after it stays.
 pub fn write_member(part: &mut [u32], m: Member, r: usize)
     requires { ⌜ (r ≤ 8) × (recordSize r ≤ length (now part)) ⌝ }
     ensures { λ _. ⌜ now (part .exit) ≡ recordOf (view r m) ++ drop (recordSize r) (now (part .entry)) ⌝ }
@@ -103,11 +105,24 @@ pub fn write_member(part: &mut [u32], m: Member, r: usize)
     part[PENDING] = m.pending;
     part[CANDIDATE] = m.candidate;
     let l = m.successors;
+    if r == 8 {
+        part[4] = l[0];
+        part[5] = l[1];
+        part[6] = l[2];
+        part[7] = l[3];
+        part[8] = l[4];
+        part[9] = l[5];
+        part[10] = l[6];
+        part[11] = l[7];
+        part[12] = m.steps;
+        return;
+    }
     let mut i = 0;
     while i < r {
         part[LIST + i] = l[i];
         i += 1;
     }
+    part[LIST + r] = m.steps;
 }
 
 // A gap of so many words is opened at the front: the used words move up, and the gap keeps its old words.

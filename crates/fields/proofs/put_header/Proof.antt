@@ -23,7 +23,7 @@ returns : tie.Need-returns
 returns c =
     let head = c .before .before .before .before .before .before in
     let a = head .before .before .before .args in
-    header-placed (a .r) (a .n) (a .steps) (a .out .now) (head .put-head .last .0) _ (omega arith) (head .put-head .ensures) (c .before .before .put4 .ensures)
+    header-placed (a .r) (a .n) (a .out .now) (head .put-head .last .0) _ (omega arith) (head .put-head .ensures) (c .before .before .put4 .ensures)
 
 pub put-header-spec : {M : Type 1} → statement M
 put-header-spec =

@@ -57,7 +57,7 @@ part-write-ahead-start : tie.Need-part-write-ahead-start Inv-loop μ-loop Inv-lo
 part-write-ahead-start c = omega (arith, eight-fits c)
 
 write-ahead-requires : tie.Need-write-ahead-requires Inv-loop μ-loop Inv-loop2 μ-loop2
-write-ahead-requires c κs = (search needs, search needs, simp (length-take, length-drop) (omega (arith, eight-fits (c .before))))
+write-ahead-requires c κs = (search needs, search needs, search needs, simp (length-take, length-drop) (omega (arith, eight-fits (c .before))))
 
 loop-again : tie.Need-loop-again Inv-loop μ-loop Inv-loop2 μ-loop2
 loop-again c =
@@ -69,7 +69,7 @@ loop-again c =
     let n = i .loop-test .taken in (
       omega arith,
       c .before .t .given .1 ∙ k .inv .1,
-      ahead-on (a .r) (a .xs .now) (k .t) _ (k .i) (o .offset .result) (omega arith) (o .offset .ensures .0) (k .inv .2) (w .write-ahead .ensures .0 (a .r) (omega arith)),
+      ahead-on (a .r) (a .xs .now) (k .t) _ (k .i) (o .offset .result) (omega arith) (o .offset .ensures .0) (k .inv .2) (w .write-ahead .ensures .0),
       ahead-behind (a .r) (a .xs .now) (k .t) (w .write-ahead .last .0) (k .i) (o .offset .result) (omega arith) (o .offset .ensures .0) (k .inv .2)
           (recordSize 8) _ (w .write-ahead .ensures .1) (eight-fit (a .r) (a .xs .now) (k .i) n) ∙ k .inv .3,
     )

@@ -8,6 +8,7 @@ use Rattle.model.specs.Table.{headerSize, recordSize}
 use Rattle.member.specs.View.{view}
 use Rattle.table.proofs.Members.{size-words}
 use Rattle.records.proofs.Edits.{rank-within, gap-of, insert-words}
+use Rattle.table.proofs.Place.{own-header}
 use borrow.Author.Needs.{needs}
 use Rattle.records.proofs.insert_at.Statement.{statement}
 use Rattle.records.proofs.insert_at.Tie as tie
@@ -58,7 +59,7 @@ returns c =
     let s = start o in
     let ws = s .args .t .now in
     let e = eight s in
-    insert-words ws (s .pre .0 .header) (view (getD ws 0 0) (s .args .m)) (o .before .offset .result) (o .offset2 .result) (s .args .k) (put .put-in .last .0)
+    insert-words ws (own-header ws (s .pre .0)) (view (getD ws 0 0) (s .args .m)) (o .before .offset .result) (o .offset2 .result) (s .args .k) (put .put-in .last .0)
     (simp length-take (omega arith)) (gap-of ws (s .args .m .id) (s .args .k) (s .pre .1 .1 .0) (s .pre .1 .1 .1)) (within s)
     (o .before .offset .ensures .0) (o .offset2 .ensures .0) (room o .1) (put .put-in .ensures)
 

@@ -5,7 +5,7 @@ use native.Mathlib.Nat.{mul-le-mul-right, suc-mul}
 use native.Mathlib.Omega.{arith}
 use lib.ListN.{length, getD, length-take, length-drop}
 use Rattle.model.specs.Table.{recordSize, membersIn, ids}
-use Rattle.table.proofs.Place.{own-place, stands-at}
+use Rattle.table.proofs.Place.{own-place, stands-at, own-header}
 use Rattle.records.proofs.Edits.{remove-words}
 use borrow.Author.Needs.{needs}
 use Rattle.records.proofs.remove_at.Statement.{statement}
@@ -48,7 +48,7 @@ returns c =
     let o = w .before in
     let s = start w in
     let ws = s .args .t .now in
-    remove-words ws (s .pre .0 .header) (getD (ids (membersIn ws)) (s .args .k) 0) (o .before .offset .result) (o .offset2 .result) (s .args .k)
+    remove-words ws (own-header ws (s .pre .0)) (getD (ids (membersIn ws)) (s .args .k) 0) (o .before .offset .result) (o .offset2 .result) (s .args .k)
     (put .close-gap .last .0) (s .pre .0 .rises) (stands-at (s .pre .0) (own-place ws (s .args .k) (s .pre .1))) (o .before .offset .ensures .0)
     (o .offset2 .ensures .0) (room w .1) (rw (w .record-size .ensures) at (put .close-gap .ensures))
 

@@ -6,7 +6,7 @@ use lib.ListN.{length, getD, length-take, length-drop}
 use Rattle.model.specs.Table.{recordSize}
 use Rattle.member.specs.View.{view}
 use Rattle.table.proofs.Members.{record-fits}
-use Rattle.table.proofs.Place.{stands-at}
+use Rattle.table.proofs.Place.{stands-at, own-header}
 use Rattle.records.proofs.Edits.{replace-words}
 use borrow.Author.Needs.{needs}
 use Rattle.records.proofs.replace_at.Statement.{statement}
@@ -41,7 +41,7 @@ returns c =
     let s = start o in
     let ws = s .args .t .now in
     let e = eight s in
-    replace-words ws (s .pre .0 .header) (view (getD ws 0 0) (s .args .m)) (o .offset .result) (s .args .k) (w .write-member .last .0)
+    replace-words ws (own-header ws (s .pre .0)) (view (getD ws 0 0) (s .args .m)) (o .offset .result) (s .args .k) (w .write-member .last .0)
     (simp length-take (omega arith)) (stands-at (s .pre .0) (s .pre .1)) (o .offset .ensures .0) (s .pre .0 .fits) (w .write-member .ensures)
 
 pub replace-at-spec : {M : Type 1} → statement M

@@ -1,13 +1,12 @@
--- `stabilize_at` meets its contract: it puts the stepped record in its place and counts the step. Assumes nothing.
+-- `stabilize_at` meets its contract: it puts the stepped record, its step counted, in its place. Assumes nothing.
 use Prim.Native.Nat.{ℕ}
 use mathlib.Core.Path.{_≡_, sym, ap, _∙_}
-use mathlib.Core.List.{List}
 use borrow.Author.Needs.{needs}
-use lib.ListN.{getD, set}
+use lib.ListN.{getD}
 use Rattle.model.specs.Table.{Member, spaceOf, membersIn, tableOf, ids}
 use Rattle.model.specs.Ring.{named}
 use Rattle.model.specs.Answer.{accepted}
-use Rattle.model.specs.Steps.{stabilize, stabilizeReply, replaced, withMembers, nextStep}
+use Rattle.model.specs.Steps.{stabilize, stabilizeReply, countStep, replaced, withMembers}
 use Rattle.model.specs.Calls.{written}
 use Rattle.member.specs.View.{view}
 use Rattle.laws.specs.Lists.{found, live-in}
@@ -40,35 +39,31 @@ read c = let s = start c in c .before .before .member-at .ensures ∙ stands-nam
 stepped : (c : tie.After-take-step) → let ws = start c .args .t .now in view (getD ws 0 0) (c .take-step .result .member) ≡ stabilize (spaceIn (start c)) (membersIn ws) (here (start c))
 stepped c = c .take-step .ensures .leaves ∙ ap (stabilize (spaceIn (start c)) (membersIn (start c .args .t .now))) (read c)
 
+-- and counted
+counted : (c : tie.After-count-step) → let s = start (c .before .before) in let ws =
+    s .args .t .now in view (getD ws 0 0) (c .count-step .result) ≡ countStep (stabilize (spaceIn s) (membersIn ws) (here s))
+counted c = let o = c .before .before in c .count-step .ensures (getD (start o .args .t .now) 0 0) ∙ ap countStep (stepped o)
+
 replace-at-requires : tie.Need-replace-at-requires
 replace-at-requires c κs =
-    let o = c .before .before in
-    let s = start o in
+    let s = start (c .before .before .before) in
     let ms = membersIn (s .args .t .now) in (
       s .pre .0,
       record {
         within = s .pre .1;
         has-id = sym
-            (ap (λ (m : Member). m .id) (stepped o) ∙ same-id ms (here s) (spaceIn s) ∙ found ms (live-in ms (who s) (stands-live (s .pre .0) (stands s))) .1);
+            (ap (λ (m : Member). m .id) (counted (c .before)) ∙ same-id ms (here s) (spaceIn s) ∙ found ms (live-in ms (who s) (stands-live (s .pre .0) (stands s))) .1);
       },
     )
 
--- the words that the record's replacement leaves
-left : (c : tie.After-replace-at) → let s = start (c .before .before .before) in let ws =
-    s .args .t .now in c .replace-at .last .0 ≡ written (withMembers (replaced (stabilize (spaceIn s) (membersIn ws) (here s)) (membersIn ws)) (tableOf ws)) ws
-left c =
-    let o = c .before .before .before in
-    let ws = start o .args .t .now in
-    c .replace-at .ensures ∙ ap (λ (m : Member). written (withMembers (replaced m (membersIn ws)) (tableOf ws)) ws) (stepped o)
-
 returns : tie.Need-returns
 returns c =
-    let n = c .before .before in
-    let p = n .before .before .before .before in
-    let o = p .before .before .before in
-    let ms = membersIn (start o .args .t .now) in
-    (o .take-step .ensures .replies ∙ ap (λ (m : Member). accepted (stabilizeReply ms m)) (read o), n .count-step .ensures ∙ ap (λ (l : List ℕ). set l 2 (nextStep (getD l 2 0))) (left p))
+    let p = c .before .before in
+    let o = p .before .before .before .before in
+    let ws = start o .args .t .now in (
+      o .take-step .ensures .replies ∙ ap (λ (m : Member). accepted (stabilizeReply (membersIn ws) m)) (read o),
+      p .replace-at .ensures ∙ ap (λ (m : Member). written (withMembers (replaced m (membersIn ws)) (tableOf ws)) ws) (counted (p .before .before)),
+    )
 
 pub stabilize-at-spec : {M : Type 1} → statement M
-stabilize-at-spec =
-    tie.close (tie.spec (λ c κs. search needs) (λ c κs. search needs) replace-at-requires (λ c κs. search needs) (λ c. search needs) returns)
+stabilize-at-spec = tie.close (tie.spec (λ c κs. search needs) (λ c κs. search needs) (λ c κs. search needs) replace-at-requires (λ c. search needs) returns)

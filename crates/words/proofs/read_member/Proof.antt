@@ -1,12 +1,12 @@
 -- `read_member` meets its contract: eight entries at once, or one by one. The loop's invariant: the first i entries are copied. Assumes nothing.
-use Prim.Native.Nat.{ℕ, _-_, _≤_}
-use mathlib.Core.Path.{_≡_, sym, ap}
+use Prim.Native.Nat.{ℕ, _+_, _-_, _≤_}
+use mathlib.Core.Path.{_≡_, sym, ap₂}
 use mathlib.Core.List.{List}
 use native.Mathlib.Omega.{arith}
-use lib.ListN.{length, take, drop, length-set, length-drop}
+use lib.ListN.{length, getD, take, drop, length-set, length-drop}
 use lib.Seq.{getD-drop}
 use Rattle.model.specs.Table.{memberOf}
-use Rattle.model.specs.Steps.{withSuccessors}
+use Rattle.model.specs.Steps.{withSuccessors, withSteps}
 use Rattle.words.proofs.Records.{copied-more, entries-at-once}
 use borrow.Author.Needs.{needs}
 use Rattle.words.proofs.read_member.Statement.{statement}
@@ -18,15 +18,19 @@ Inv-loop part r l₀ i₀ l i = (i ≤ r) × (length l ≡ 8) × (take i l ≡ t
 abbrev μ-loop : tie.MeasureT-loop
 μ-loop part r l₀ i₀ l i = r - i
 
+-- the list and the step count that were read
+read : (r : ℕ) (ws l : List ℕ) → take r l ≡ take r (drop 4 ws) → withSteps (getD ws (4 + r) 0) (withSuccessors (take r l) (memberOf r ws)) ≡ memberOf r ws
+read r ws l e = ap₂ (λ (s : ℕ) (x : List ℕ). withSteps s (withSuccessors x (memberOf r ws))) (sym (getD-drop 4 ws r 0)) e
+
 -- so many words that eight entries stand there
-abbrev start : tie.After-shared-slice-known12 Inv-loop μ-loop → tie.Then1 Inv-loop μ-loop
-start c = c .before .before .before .before .before .before .before .before .before .before .before .before
+abbrev start : tie.After-shared-slice-known13 Inv-loop μ-loop → tie.Then1 Inv-loop μ-loop
+start c = c .before .before .before .before .before .before .before .before .before .before .before .before .before
 
 returns : tie.Need-returns Inv-loop μ-loop
 returns c =
     let t = start c in
     let a = t .before .args in
-    ap (λ (x : List ℕ). withSuccessors x (memberOf (a .r) (a .part .now))) (entries-at-once (a .r) (a .part .now) (t .before .pre .0) (omega (arith, t .if1 .taken)))
+    read (a .r) (a .part .now) _ (entries-at-once (a .r) (a .part .now) (t .before .pre .0) (omega (arith, t .if1 .taken)))
 
 loop-again : tie.Need-loop-again Inv-loop μ-loop
 loop-again c =
@@ -36,10 +40,10 @@ loop-again c =
 
 returns-2 : tie.Need-returns-2 Inv-loop μ-loop
 returns-2 c =
-    let k = c .before .before .before .before .before in
+    let k = c .before .before .before .before .before .before in
     let a = k .before .before .args in
     let z : k .loop .i ≡ a .r = omega arith in
-    ap (λ (x : List ℕ). withSuccessors x (memberOf (a .r) (a .part .now))) (rw z at (k .loop .inv .2))
+    read (a .r) (a .part .now) (k .loop .l) (rw z at (k .loop .inv .2))
 
 pub read-member-spec : {M : Type 1} → statement M
 read-member-spec =
@@ -49,8 +53,9 @@ read-member-spec =
     μ-loop
     (λ c. search needs) (λ c. search needs) (λ c. search needs) (λ c. search needs) (λ c. search needs) (λ c. search needs) (λ c. search needs)
     (λ c. search needs) (λ c. search needs) (λ c. search needs) (λ c. search needs) (λ c. search needs) (λ c. search needs)
+    (λ c. search needs) (λ c. search needs) (λ c. search needs)
     returns
     (λ c. search needs) (λ c. search needs) (λ c. search needs) (λ c. search needs) (λ c. search needs) (λ c. search needs) (λ c. search needs) (λ c. search needs)
     loop-again
-    (λ c. search needs) (λ c. search needs) (λ c. search needs) (λ c. search needs)
+    (λ c. search needs) (λ c. search needs) (λ c. search needs) (λ c. search needs) (λ c. search needs) (λ c. search needs) (λ c. search needs)
     returns-2)
