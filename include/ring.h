@@ -13,22 +13,23 @@
 
          0                r               entries in each list: 1 to 8
          1                member count    0 to 256
-         2                step count      accepted stabilize steps; it stays at 4294967295
+         2                zero            0 always
          3                record of the member with the lowest identifier
-         3 + 1 (r + 4)    record of the next one up
-         3 + 2 (r + 4)    ..
+         3 + 1 (r + 5)    record of the next one up
+         3 + 2 (r + 5)    ..
                           after the last record: words that belong to nobody
 
-   A record has r + 4 words:
+   A record has r + 5 words:
 
        + 0                identifier
        + 1                predecessor: an identifier, of a member or not
        + 2                pending: 1 if the next stabilize step is to look at the candidate, else 0
        + 3                candidate: an identifier; 0 where pending is 0
        + 4 .. r + 3       the list: r entries, each an identifier, of a member or not
+       + r + 4            step count: the member's own accepted stabilize steps; it stays at 4294967295
 
    RING_TABLE_WORDS(r, members) says how many words a table takes; RING_TABLE_WORDS_MOST hold every table. A join takes the
-   next r + 4 of the words after the last record, a loss or a withdrawal makes the r + 4 that it frees 0: keep nothing there.
+   next r + 5 of the words after the last record, a loss or a withdrawal makes the r + 5 that it frees 0: keep nothing there.
    Read words as you like, by the names below; write them by the calls alone.
 
 
@@ -37,9 +38,9 @@
    The writing of a table in bytes, to be stored or sent: fields, each a tag of one byte, the length of its contents in two,
    and the contents. Numbers stand high byte first, so the bytes do not depend on the host's byte order (a table's words do).
 
-       tag 1, length 7          r in one byte, member count in two, step count in four
-       tag 2, length 13 + 4 r   for each member, in order: identifier in four bytes, predecessor in four, pending in one,
-                                candidate in four, then the r entries of its list in four each
+       tag 1, length 7          r in one byte, member count in two, 0 in four
+       tag 2, length 17 + 4 r   for each member, in order: identifier in four bytes, predecessor in four, pending in one,
+                                candidate in four, then the r entries of its list in four each, then step count in four
        tag 3, length 0          the end; no byte follows
 
    RING_IMAGE_BYTES(r, members) says how many bytes that is; RING_IMAGE_BYTES_MOST hold every image.
@@ -50,8 +51,11 @@
    identifier     any 32-bit number; the one after 4294967295 is 0
    between        between(a, n, b): n lies strictly inside the way up from a to b, round the end if need be. If a < b, that
                   is a < n and n < b; else a < n or n < b. So between(a, n, a) holds for each n other than a
-   well-formed    header and records stand as above: r is 1 to 8, there are 0 to 256 members, records stand by strictly
-                  rising identifier, each pending is 0 or 1, and each candidate is 0 where pending is 0
+   well-formed    header and records stand as above: r is 1 to 8, there are 0 to 256 members, the header's third word is 0,
+                  records stand by strictly rising identifier, each pending is 0 or 1, and each candidate is 0 where
+                  pending is 0. Predecessors, entries and step counts may be any numbers
+   step count     a member's own: 0 when it joins and by ring_new, the image's by ring_image_read; each of its accepted
+                  stabilize steps adds 1, those of rounds and settles too, until it is 4294967295
    live, dead     an entry is live if it is a member's identifier, else dead. A dead entry need not be a shelf that has
                   gone: a stabilize step that drops a dead first entry appends the identifier after the last entry, and
                   that may never have been a shelf's
@@ -90,7 +94,7 @@
    HOW TO
 
    Start. ring_new with the identifiers of the shelves; or ring_image_read, and then ring_audit: go on if the verdict is 1
-   or 2. Lend room for the shelves to come, r + 4 words each. Choose r of 2 or more: any r - 1 shelves may be taken out of a
+   or 2. Lend room for the shelves to come, r + 5 words each. Choose r of 2 or more: any r - 1 shelves may be taken out of a
    settled ring that keeps r + 1. r stays as it was chosen, and is the table's first word, table[RING_R].
 
    Let a shelf join. By which member p: look j up with ring_lookup from any member; p is values[1], the member that the
@@ -107,6 +111,12 @@
    r + 2 steps are enough for a turn, one for a pending step and then r + 1. ring_round is the turn of every member, and
    ring_settle runs rounds until the verdict is 2 or its limit is reached. With a limit of 255 or more it always reports
    verdict 2, if it is not refused.
+
+   Find a shelf that does not stabilize. Two readings of its step count, table[RING_STEPS(r, place)], tell whether it has
+   taken a stabilize step in between: if they are equal, none; else as many as they differ by, or more where the second is
+   4294967295. That holds if the first is below 4294967295, the shelf stayed a member, and the table was neither made anew by
+   ring_new nor read by ring_image_read in between; a shelf that left and joined again starts at 0. Records move as other
+   shelves join and go: at each reading look for the place by the identifier.
 
    Take a shelf out. ring_leave; 6 and 7 decline it where the ring would not bear it. With verdict 2 any r - 1 shelves,
    neighbours or not, are granted it one after the other, as long as r + 1 are left; with r + 1 members or fewer it is always
@@ -161,11 +171,11 @@
       ring_new          128
       ring_join         192
       ring_stabilize    320
-      ring_rectify      192
+      ring_rectify      256
       ring_round       1856
       ring_settle      1920
       ring_fail         128
-      ring_leave      14080
+      ring_leave      15104
       ring_lookup       192
       ring_held         128
       ring_principal     64
@@ -196,9 +206,19 @@ extern "C" {
 
 /* The layout of tables and images on this page. A release that moves words of tables or bytes of images raises the number;
    it declines older tables by RING_NOT_WELL_FORMED and older images by RING_NO_IMAGE where that can be told, and says here
-   where it cannot. Layout 1 is the first, so there are no older ones. Neither a table nor an image holds the number: who
-   keeps them over an update keeps it beside them, and compares. */
-#define RING_LAYOUT 1
+   where it cannot. Neither a table nor an image holds the number: who keeps them over an update keeps it beside them, and
+   compares.
+   Layout 1 had one step count for the whole ring, where header and tag 1 have 0 now, and none in records and tag 2.
+   - Its images: ring_image_read declines one with a member, or with a step count other than 0. One without members and with
+     step count 0 is read; its bytes are the same in both layouts.
+   - Its tables: one with a step count other than 0 is declined. One with step count 0 is well-formed here, so that it cannot
+     be told, if it has no member, for it is the same table then, or one and a word behind it; with two members it may be, with
+     three or more it never is. 1 1 0 5 5 0 0 5 77 had the member 5 and a word that belonged to nobody, and here 77 is the step
+     count of 5; 1 2 0 5 9 0 0 9 9 7 0 0 0 3 4 had the members 5 and 9, and here they are 5 and 7.
+   So a firmware keeps RING_LAYOUT beside its tables. To go on with a ring of layout 1, start anew, as HOW TO says, with the
+   identifiers of its table, the words 3 + place (r + 4), or of its image, the four bytes from 13 + place (16 + 4 r) on, high
+   byte first. */
+#define RING_LAYOUT 2
 
 /* The most members, and the most entries in a list. */
 #define RING_MEMBERS_MOST 256
@@ -208,12 +228,12 @@ extern "C" {
 enum {
     RING_R = 0,
     RING_MEMBERS = 1,
-    RING_STEPS = 2,
+    RING_ZERO = 2,
     RING_HEADER_WORDS = 3
 };
 
 /* The words of a record, by name, counted from its first: table[RING_RECORD(r, place) + RING_PENDING]. The entries of the
-   list are the r words from RING_LIST on. */
+   list are the r words from RING_LIST on; the step count follows them, see RING_STEPS. */
 enum {
     RING_ID = 0,
     RING_PREDECESSOR = 1,
@@ -224,16 +244,19 @@ enum {
 
 /* How many words a record has, and the word at which the record at a place begins. The member with the lowest identifier
    stands at place 0. */
-#define RING_RECORD_WORDS(r) (RING_LIST + (size_t)(r))
+#define RING_RECORD_WORDS(r) (RING_LIST + (size_t)(r) + 1)
 #define RING_RECORD(r, place) (RING_HEADER_WORDS + (size_t)(place) * RING_RECORD_WORDS(r))
+
+/* The word that is the step count of the member at a place, the last of its record: table[RING_STEPS(r, place)]. */
+#define RING_STEPS(r, place) (RING_RECORD(r, place) + RING_LIST + (size_t)(r))
 
 /* How many words a table takes, and how many hold every table. */
 #define RING_TABLE_WORDS(r, members) RING_RECORD(r, members)
-#define RING_TABLE_WORDS_MOST 3075
+#define RING_TABLE_WORDS_MOST 3331
 
 /* How many bytes an image takes, and how many hold every image. */
-#define RING_IMAGE_BYTES(r, members) (13 + (size_t)(members) * (16 + 4 * (size_t)(r)))
-#define RING_IMAGE_BYTES_MOST 12301
+#define RING_IMAGE_BYTES(r, members) (13 + (size_t)(members) * (20 + 4 * (size_t)(r)))
+#define RING_IMAGE_BYTES_MOST 13325
 
 /* The tags of an image's fields. */
 enum {
@@ -249,7 +272,7 @@ enum {
     RING_ALREADY_MEMBER = 2,     /* join: j is a member */
     RING_NO_MEMBER = 3,          /* p, or the member called, is no member */
     RING_NOT_BETWEEN = 4,        /* join: not between(p, j, first entry of p) */
-    RING_NO_ROOM = 5,            /* join: 256 members, or fewer than r + 4 words after the last record */
+    RING_NO_ROOM = 5,            /* join: 256 members, or fewer than r + 5 words after the last record */
     RING_CUTS_OFF = 6,           /* withdrawal: a member left would have no live entry */
     RING_TOO_FEW_PRINCIPALS = 7, /* withdrawal: fewer than r + 1 principals would be left */
     RING_NO_LIVE_ENTRY = 8,      /* lookup: it stands at a member without a live entry; values[0] is that member */
@@ -299,18 +322,18 @@ struct ring_runs {
     size_t end[2];
 };
 
-/* The new, ideal table of r and count strictly rising identifiers, step count 0. The old words are never looked at; words
-   after the last record stay. values: member count. Refused: 11, 10. */
+/* The new, ideal table of r and count strictly rising identifiers, each step count 0. The old words are never looked at;
+   words after the last record stay. values: member count. Refused: 11, 10. */
 struct ring_answer ring_new(uint32_t *table, size_t words, uint32_t r, const uint32_t *ids, size_t count);
 
-/* j becomes a member by p: predecessor p, p's list, nothing pending. The records above j move up, and no other record changes.
-   values: member count afterwards. Refused: 1, 2, 3, 4, 13, 5.
+/* j becomes a member by p: predecessor p, p's list, nothing pending, step count 0, also if it has left and joins again. The
+   records above j move up, and no other record changes. values: member count afterwards. Refused: 1, 2, 3, 4, 13, 5.
    Where 13 declines it, the first entry of p is a member after at most r stabilize steps of p in a row, on a sound table, so
    after its turn. Then look j up again, since 4 can decline the same join now. By 13 the first entry of a new member is
    always a member when it joins, and none of its stabilize steps replies RING_AGAIN while no member goes. */
 struct ring_answer ring_join(uint32_t *table, size_t words, uint32_t j, uint32_t p);
 
-/* One stabilize step of n, which adds 1 to the step count (it stays at 4294967295). values, with h the first entry of n:
+/* One stabilize step of n, which adds 1 to n's step count (it stays at 4294967295). values, with h the first entry of n:
    {RING_AGAIN}    nothing was pending and h is dead: h was dropped from the list's front, and the identifier after the last
                    entry (with r = 1 after h) put at its end;
    {RING_LOOK, c}  nothing was pending and h is a member: the list became h and h's list without its last entry. c is the
@@ -323,7 +346,10 @@ struct ring_answer ring_join(uint32_t *table, size_t words, uint32_t j, uint32_t
    On a sound table the steps of one member up to its first done, with no other call between them, say again at most r - 1
    times, then look at most once, then done: r + 1 steps are enough; if a step is pending, the first says done. On a table
    that is not sound nothing bounds the agains but the identifiers: a lone member with r = 1 can say again 4294967295 times in
-   a row. So bound the loop. */
+   a row. So bound the loop.
+   While a shelf stays a member, its step count changes by its own accepted stabilize steps, those of ring_round and
+   ring_settle among them, by ring_new and by ring_image_read, and by nothing else: not by steps of others, not by their joins,
+   losses and withdrawals, though these may move its record, not by ring_rectify, and not by a refused call. */
 struct ring_answer ring_stabilize(uint32_t *table, size_t words, uint32_t n);
 
 /* n takes a notice that q sent, any identifier: q becomes n's predecessor if between(predecessor, q, n), or if the
@@ -332,22 +358,25 @@ struct ring_answer ring_rectify(uint32_t *table, size_t words, uint32_t n, uint3
 
 /* One round: each member, by rising identifier, finishes a pending step, if it has one, and delivers its notice; then it
    takes stabilize steps until done, and delivers that notice. A notice is taken as by ring_rectify; one to a non-member is
-   lost. Each stabilize step adds 1 to the step count. values: the verdict after the round, 1 or 2. Refused: 1, 14. */
+   lost. These are 1 to r + 2 steps a member, and its step count grows by so many, up to 4294967295. values: the verdict after
+   the round, 1 or 2. Refused: 1, 14. */
 struct ring_answer ring_round(uint32_t *table, size_t words);
 
 /* Settle: rounds until the verdict is 2, or until so many have run as limit says; any limit, 0 runs none. The verdict is
    looked at before each round, so an ideal table gets none, and a step that is pending there stays so. values: rounds run,
    verdict, passed. Refused: 1, 14.
+   Each round adds to the step counts as ring_round does: k rounds at least k and at most (r + 2) k to each member's, up to
+   4294967295.
    passed is of the table as it began, whether or not a round was run: the dead entries before the first live one of each
    list, added up over all members, at most r - 1 a member. It tells how stale the lists were: 0 if each member's first entry
    was a member, as on an ideal table.
    Enough are members - principals + r rounds, by ring_audit's numbers before the call: so many, or any more, make every
    sound table ideal, and that is at most members - 1. So with a limit of 255 or more the verdict reported is 2. The rounds of
    several calls add up, single rounds among them, as long as no other call that writes the table stands between them. A
-   round after that many changes the step count only. */
+   round after that many changes step counts only. */
 struct ring_answer ring_settle(uint32_t *table, size_t words, uint32_t limit);
 
-/* Loss of n: its record goes, those above move down, the r + 4 words freed become 0. values: member count afterwards.
+/* Loss of n: its record goes, those above move down, the r + 5 words freed become 0. values: member count afterwards.
    Refused: 1, 3. */
 struct ring_answer ring_fail(uint32_t *table, size_t words, uint32_t n);
 
@@ -410,7 +439,7 @@ struct ring_answer ring_image_read(uint32_t *table, size_t words, const uint8_t 
 
 /* The field at a position. values: tag, start of its contents, their length, position after them. Nothing is written.
    Refused: 9. Where fields are due follows from r and member count of the first field, whatever these two say: tag 1 at 0,
-   tag 2 at 10 + i (16 + 4 r) for each member, then tag 3. A field is answered if the first one has its tag and length, the
+   tag 2 at 10 + i (20 + 4 r) for each member, then tag 3. A field is answered if the first one has its tag and length, the
    one asked for has those that are due there, and both lie within the bytes. Its numbers, other fields and bytes behind it
    are not looked at: a walk from 0 that comes to the end has not shown that the bytes are an image; ring_image_read does. */
 struct ring_answer ring_image_field(const uint8_t *image, size_t bytes, size_t position);

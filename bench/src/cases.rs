@@ -8,7 +8,7 @@ use crate::{library, same};
 use std::hint::black_box;
 
 #[cfg(feature = "whole")]
-const BYTES: usize = 12301;
+const BYTES: usize = 13325;
 
 #[derive(Clone, Copy, Debug, PartialEq, Eq)]
 pub enum Side {
@@ -157,7 +157,7 @@ impl Case {
             _ => Lists::Settled,
         };
         let mut table = table(lists, r, &ids);
-        let width = r as usize + 4;
+        let width = r as usize + 5;
         let at = |k: usize| 3 + k * width;
         let n = count as u32;
         let (mut x, mut y) = (ids[100], 0);
@@ -262,7 +262,7 @@ impl Case {
                 told
             }
             #[cfg(feature = "whole")]
-            Call::ImageWrite => answer(0, [13 + n * (16 + 4 * r)]),
+            Call::ImageWrite => answer(0, [13 + n * (20 + 4 * r)]),
             #[cfg(feature = "whole")]
             Call::ImageRead => answer(0, [n]),
             Call::Restore => answer(0, []),

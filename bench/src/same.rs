@@ -1,7 +1,7 @@
 //! The same algorithms as the library's, in plain safe Rust over the same words.
 //!
-//! A table is a header of three words (r, member count, step count) and one record of r + 4 words
-//! a member: identifier, predecessor, pending, candidate and r successors, by rising identifier.
+//! A table is a header of three words (r, member count, and a step count that is 0 always) and one record of r + 5 words
+//! a member: identifier, predecessor, pending, candidate, r successors and its step count, by rising identifier.
 
 mod calls;
 #[cfg(feature = "whole")]
@@ -15,7 +15,7 @@ use std::slice::ChunksExact;
 
 const HEADER: usize = 3;
 const MEMBERS_MOST: usize = 256;
-const WORDS_MOST: usize = HEADER + MEMBERS_MOST * 12;
+const WORDS_MOST: usize = HEADER + MEMBERS_MOST * 13;
 
 /// What a call answers: number 0 and the reply's values, of which there are `count`, or the number that declines it.
 #[repr(C)]
@@ -82,11 +82,13 @@ struct Member {
     pending: u32,
     candidate: u32,
     successors: [u32; 8],
+    steps: u32,
 }
 
 impl Member {
     fn read(record: &[u32]) -> Self {
-        let (front, list) = record.split_at(4);
+        let (front, rest) = record.split_at(4);
+        let (list, steps) = rest.split_at(rest.len() - 1);
         let mut successors = [0; 8];
         successors[..list.len()].copy_from_slice(list);
         Member {
@@ -95,13 +97,16 @@ impl Member {
             pending: front[2],
             candidate: front[3],
             successors,
+            steps: steps[0],
         }
     }
 
     fn write(&self, record: &mut [u32]) {
-        let (front, list) = record.split_at_mut(4);
+        let (front, rest) = record.split_at_mut(4);
+        let (list, steps) = rest.split_at_mut(rest.len() - 1);
         front.copy_from_slice(&[self.id, self.predecessor, self.pending, self.candidate]);
         list.copy_from_slice(&self.successors[..list.len()]);
+        steps[0] = self.steps;
     }
 
     fn drop_head(mut self, r: usize) -> Self {
@@ -128,6 +133,24 @@ impl Member {
         self.candidate = 0;
         self
     }
+
+    /// One step more is counted, up to the largest word.
+    fn count_step(mut self) -> Self {
+        self.steps = self.steps.saturating_add(1);
+        self
+    }
+}
+
+/// The words of one record.
+#[inline(always)]
+fn record_size(r: usize) -> usize {
+    r + 5
+}
+
+/// The list of a record, which stands before its step count.
+#[inline(always)]
+fn list(record: &[u32]) -> &[u32] {
+    &record[4..record.len() - 1]
 }
 
 /// A well-formed table, taken apart.
@@ -142,14 +165,14 @@ struct Table<'a> {
 impl<'a> Table<'a> {
     /// The table in the words, if it is well-formed: one pass.
     fn open(words: &'a [u32]) -> Option<Self> {
-        let [r, members, _, rest @ ..] = words else {
+        let [r, members, steps, rest @ ..] = words else {
             return None;
         };
         let (r, members) = (*r as usize, *members as usize);
-        if !(1..=8).contains(&r) || members > MEMBERS_MOST {
+        if !(1..=8).contains(&r) || members > MEMBERS_MOST || *steps != 0 {
             return None;
         }
-        let width = r + 4;
+        let width = record_size(r);
         let records = rest.get(..members * width)?;
         let mut lowest = 0;
         for record in records.chunks_exact(width) {
@@ -249,7 +272,7 @@ impl<'a> Table<'a> {
     #[inline]
     fn best(&self, k: usize) -> Option<(usize, u32)> {
         let next = if k + 1 < self.members { k + 1 } else { 0 };
-        let list = &self.record(k)[4..];
+        let list = list(self.record(k));
         if self.id(next) == list[0] {
             return Some((next, 0));
         }
@@ -276,7 +299,7 @@ impl<'a> Table<'a> {
         let mut reach = [0; MEMBERS_MOST];
         for (k, record) in self.records().enumerate() {
             let (mut q, mut low) = (record[0], k + 1);
-            for &b in &record[4..] {
+            for &b in list(record) {
                 let high = self.rank_from(low, b);
                 if q < b {
                     cover(&mut reach, low, high);
@@ -312,7 +335,7 @@ impl<'a> Table<'a> {
         let mut taken = 0;
         for record in self.records() {
             let mut a = record[0];
-            for &b in &record[4..] {
+            for &b in list(record) {
                 taken += 1;
                 if between(a, x, b) {
                     return Some(taken);
@@ -374,7 +397,7 @@ impl<'a> Table<'a> {
         };
         let mut below = self.id(last);
         for (k, record) in self.records().enumerate() {
-            if record[1] != below || !self.names_next(k, &record[4..]) {
+            if record[1] != below || !self.names_next(k, list(record)) {
                 return false;
             }
             below = record[0];

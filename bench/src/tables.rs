@@ -3,7 +3,7 @@
 use crate::same::{self, answer};
 
 pub const MEMBERS: usize = 256;
-pub const WORDS: usize = 3075;
+pub const WORDS: usize = 3331;
 
 /// What the lists of a table are like.
 #[derive(Clone, Copy, Debug, PartialEq, Eq)]
@@ -47,7 +47,8 @@ pub fn table(lists: Lists, r: u32, ids: &[u32]) -> Vec<u32> {
         Lists::Settled => make(ids),
         Lists::Late => {
             make(ids);
-            table[2 + ids.len() * (r as usize + 4)] -= 1;
+            // The last entry stands before the step count, which is the last word.
+            table[1 + ids.len() * (r as usize + 5)] -= 1;
         }
         Lists::Half => {
             let old: Vec<u32> = ids.iter().copied().step_by(2).collect();
@@ -73,7 +74,7 @@ pub fn table(lists: Lists, r: u32, ids: &[u32]) -> Vec<u32> {
         Lists::Random => {
             make(ids);
             let mut state = 1;
-            for (k, record) in table[3..].chunks_exact_mut(r as usize + 4).enumerate() {
+            for (k, record) in table[3..].chunks_exact_mut(r as usize + 5).enumerate() {
                 let Some(&own) = ids.get(k) else { break };
                 let mut list: Vec<u32> = Vec::new();
                 while list.len() < r as usize {
@@ -82,7 +83,7 @@ pub fn table(lists: Lists, r: u32, ids: &[u32]) -> Vec<u32> {
                         list.push(id);
                     }
                 }
-                record[4..].copy_from_slice(&list);
+                record[4..4 + r as usize].copy_from_slice(&list);
             }
         }
     }

@@ -1,8 +1,9 @@
 /* A firmware main loop in small: it starts a ring, lets shelves join, stabilize and leave, settles the ring after churn, tries a join again that
    was declined behind a dead neighbour, pulls neighbouring shelves from a ring with verdict 2, saves and restores the table, looks keys up, and
-   asks which keys a shelf holds, whether it is a principal and how stale the lists are. Every call of include/ring.h is used, and each answer is
-   compared with what documents 01 and 02 say: document 01's calls here, document 02's requests in requests.c. The first functions are what the
-   header tells one to do: a member's turn, a join, a loss. Exit status 0, and 'firmware: N checks, 0 wrong' on standard output. */
+   asks which keys a shelf holds, whether it is a principal, how stale the lists are and which shelf does not stabilize. Every call of
+   include/ring.h is used, and each answer is compared with what documents 01 and 02 say: document 01's calls here, document 02's requests in
+   requests.c. The first functions are what the header tells one to do: a member's turn, a join, a loss, a reading of a step count. Exit status 0,
+   and 'firmware: N checks, 0 wrong' on standard output. */
 
 #include "firmware.h"
 #include "check.h"
@@ -45,7 +46,7 @@ uint32_t rounds_enough(const uint32_t *table, size_t words)
 }
 
 /* The place of a member. */
-static uint32_t place_of(const uint32_t *table, uint32_t n)
+uint32_t place_of(const uint32_t *table, uint32_t n)
 {
     uint32_t place = 0;
     while (place < table[RING_MEMBERS] && id_at(table, place) != n) place++;
@@ -75,6 +76,12 @@ uint32_t report_loss(uint32_t *table, size_t words, uint32_t n)
     const uint32_t number = ring_leave(table, words, n).number;
     if (number == RING_CUTS_OFF || number == RING_TOO_FEW_PRINCIPALS) ring_fail(table, words, n);
     return number;
+}
+
+/* A reading of a member's step count: its place is looked for by the identifier, since records move as shelves join and go. */
+uint32_t steps_of(const uint32_t *table, uint32_t n)
+{
+    return table[RING_STEPS(table[RING_R], place_of(table, n))];
 }
 
 /* The placement screen: each member's keys, each looked up from every member. Returns how many keys were shown, 0 where one was shown twice,
@@ -190,8 +197,8 @@ static void settling_churn(void)
     while (++a.values[0] <= enough) ring_round(other, words);
     memcpy(kept, other, sizeof kept);
     expect("a round after enough", ring_round(other, words), RING_OK, 1, RING_VERDICT_IDEAL, 0, 0, 0);
-    kept[RING_STEPS] += 104;
-    expect_same("changes the step count alone", other, kept);
+    for (i = 0; i < 104; i++) ++*steps_at(kept, i);
+    expect_same("changes the step counts alone, each by 1", other, kept);
     expect("settled", ring_audit(table, words), RING_OK, 4, 104, 104, 104, RING_VERDICT_IDEAL);
     expect_true("all are principals", principals(table, words) == 104);
 }
@@ -274,29 +281,32 @@ static void not_sound(void)
     expect_true("no principals", principals(other, words) == 0);
 }
 
-/* The words and the bytes of layout 1: three shelves of r = 1, a step pending. A release that moves them raises RING_LAYOUT. */
-#if RING_LAYOUT != 1
-#error "the words and bytes below are those of layout 1"
+/* The words and the bytes of layout 2: three shelves of r = 1, a step pending. A release that moves them raises RING_LAYOUT. */
+#if RING_LAYOUT != 2
+#error "the words and bytes below are those of layout 2"
 #endif
 static void layout(void)
 {
-    const uint32_t three[] = {1, 3, 5, 10, 0x01020304, 0, 0, 20, 20, 10, 1, 25, 30, 30, 20, 0, 0, 10};
-    const uint8_t bytes[] = {1, 0, 7, 1, 0, 3, 0, 0, 0, 5,                                           /* the table */
-                             2, 0, 17, 0, 0, 0, 10, 1, 2, 3, 4, 0, 0, 0, 0, 0, 0, 0, 0, 20,          /* 10 */
-                             2, 0, 17, 0, 0, 0, 20, 0, 0, 0, 10, 1, 0, 0, 0, 25, 0, 0, 0, 30,        /* 20, which awaits 25 */
-                             2, 0, 17, 0, 0, 0, 30, 0, 0, 0, 20, 0, 0, 0, 0, 0, 0, 0, 0, 10, 3, 0, 0 /* 30, and the end */};
+    const uint32_t three[] = {1, 3, 0, 10, 0x01020304, 0, 0, 20, 5, 20, 10, 1, 25, 30, 4294967295u, 30, 20, 0, 0, 10, 0x05060708};
+    const uint8_t bytes[] = {1, 0, 7, 1, 0, 3, 0, 0, 0, 0,                                                        /* the table */
+                             2, 0, 21, 0, 0, 0, 10, 1, 2, 3, 4, 0, 0, 0, 0, 0, 0, 0, 0, 20, 0, 0, 0, 5,           /* 10, with five steps */
+                             2, 0, 21, 0, 0, 0, 20, 0, 0, 0, 10, 1, 0, 0, 0, 25, 0, 0, 0, 30, 255, 255, 255, 255, /* 20, which awaits 25 */
+                             2, 0, 21, 0, 0, 0, 30, 0, 0, 0, 20, 0, 0, 0, 0, 0, 0, 0, 0, 10, 5, 6, 7, 8,          /* 30 */
+                             3, 0, 0 /* the end */};
     const size_t at = RING_RECORD(1, 1);
     expect_true("sizes of words and bytes", sizeof three == RING_TABLE_WORDS(1, 3) * sizeof *three && sizeof bytes == RING_IMAGE_BYTES(1, 3));
     expect_true("the most", RING_TABLE_WORDS(RING_R_MOST, RING_MEMBERS_MOST) == RING_TABLE_WORDS_MOST &&
                                 RING_IMAGE_BYTES(RING_R_MOST, RING_MEMBERS_MOST) == RING_IMAGE_BYTES_MOST);
-    expect_true("the header's words", three[RING_R] == 1 && three[RING_MEMBERS] == 3 && three[RING_STEPS] == 5);
+    expect_true("the longest", RING_TABLE_WORDS_MOST == 3331 && RING_IMAGE_BYTES_MOST == 13325);
+    expect_true("the header's words", three[RING_R] == 1 && three[RING_MEMBERS] == 3 && three[RING_ZERO] == 0 && RING_HEADER_WORDS == 3);
     expect_true("a record's words", three[at + RING_ID] == 20 && three[at + RING_PREDECESSOR] == 10 && three[at + RING_PENDING] == 1 &&
-                                        three[at + RING_CANDIDATE] == 25 && three[at + RING_LIST] == 30 && RING_RECORD_WORDS(1) == 5);
+                                        three[at + RING_CANDIDATE] == 25 && three[at + RING_LIST] == 30 && RING_RECORD_WORDS(1) == 6);
+    expect_true("their step counts", three[RING_STEPS(1, 0)] == 5 && three[RING_STEPS(1, 1)] == 4294967295u && three[RING_STEPS(1, 2)] == 0x05060708);
     expect("the image", ring_image_write(three, RING_TABLE_WORDS(1, 3), image, sizeof image), RING_OK, 1, sizeof bytes, 0, 0, 0);
     expect_true("byte for byte", memcmp(image, bytes, sizeof bytes) == 0);
     expect("read", ring_image_read(other, words, bytes, sizeof bytes), RING_OK, 1, 3, 0, 0, 0);
     expect_true("word for word", memcmp(other, three, sizeof three) == 0);
-    expect("field of 20", ring_image_field(bytes, sizeof bytes, 30), RING_OK, 4, RING_TAG_MEMBER, 33, 17, 50);
+    expect("field of 20", ring_image_field(bytes, sizeof bytes, 34), RING_OK, 4, RING_TAG_MEMBER, 37, 21, 58);
 }
 
 /* Document 01: refusals. */
@@ -327,5 +337,6 @@ int main(void)
     withdrawals();
     settling(table);
     passed_over(table);
+    counted_by_shelf(table);
     return closing_line("firmware");
 }

@@ -9,6 +9,8 @@ uint32_t turn_of(uint32_t *table, size_t words, uint32_t place);
 uint32_t rounds_enough(const uint32_t *table, size_t words);
 uint32_t join_anywhere(uint32_t *table, size_t words, uint32_t j);
 uint32_t report_loss(uint32_t *table, size_t words, uint32_t n);
+uint32_t place_of(const uint32_t *table, uint32_t n);
+uint32_t steps_of(const uint32_t *table, uint32_t n);
 size_t screen(const uint32_t *table, size_t words, const uint32_t *keys, size_t count);
 uint32_t principals(const uint32_t *table, size_t words);
 
@@ -19,5 +21,6 @@ void join_declined(const uint32_t *table);
 void withdrawals(void);
 void settling(const uint32_t *table);
 void passed_over(const uint32_t *table);
+void counted_by_shelf(const uint32_t *table);
 
 #endif

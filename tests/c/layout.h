@@ -28,14 +28,20 @@ static inline void set_pending(uint32_t *table, size_t place, uint32_t pending, 
     record_at(table, place)[RING_CANDIDATE] = candidate;
 }
 
-/* A table with no members, step count 0. */
+/* The step count of the member at a place. */
+static inline uint32_t *steps_at(uint32_t *table, size_t place)
+{
+    return table + RING_STEPS(table[RING_R], place);
+}
+
+/* A table with no members. */
 static inline void no_members(uint32_t *table, uint32_t r)
 {
     memset(table, 0, RING_HEADER_WORDS * sizeof *table);
     table[RING_R] = r;
 }
 
-/* One more record, the last, with r entries and nothing pending. */
+/* One more record, the last, with r entries, nothing pending, step count 0. */
 static inline void add_member(uint32_t *table, uint32_t id, uint32_t predecessor, const uint32_t *list)
 {
     const uint32_t r = table[RING_R];

@@ -1,5 +1,6 @@
-/* A ring of twelve shelves, as one writes it from include/ring.h alone, and nothing else of the project: joins, a withdrawal, losses, turns, settle,
-   held keys, images and findings. It compiles as C99, C11 and C++. Exit status 0, and 'shelves: as the header says' on standard output. */
+/* A ring of twelve shelves, as one writes it from include/ring.h alone, and nothing else of the project: joins, a withdrawal, losses, turns, step
+   counts, settle, held keys, images and findings. It compiles as C99, C11 and C++. Exit status 0, and 'shelves: as the header says' on standard
+   output. */
 
 #include "ring.h"
 #include <stdio.h>
@@ -24,6 +25,20 @@ static uint32_t id_at(uint32_t place)
     return table[RING_RECORD(table[RING_R], place) + RING_ID];
 }
 
+/* The place of a member. */
+static uint32_t place_of(uint32_t n)
+{
+    uint32_t place = 0;
+    while (id_at(place) != n) place++;
+    return place;
+}
+
+/* A reading of a member's step count. */
+static uint32_t steps_of(uint32_t n)
+{
+    return table[RING_STEPS(table[RING_R], place_of(n))];
+}
+
 /* The turn of a member: a pending step is finished, then stabilize steps until done; each done is a notice to the shelf named. */
 static int turn(uint32_t place)
 {
@@ -42,14 +57,13 @@ static int turn(uint32_t place)
 /* j joins by the member that a lookup of it stands at; behind a dead first entry that one takes its turn first. */
 static uint32_t join(uint32_t j)
 {
-    uint32_t tries, place, number = RING_NO_MEMBER;
+    uint32_t tries, number = RING_NO_MEMBER;
     for (tries = 0; tries < RING_MEMBERS_MOST; tries++) {
         const struct ring_answer a = ring_lookup(table, WORDS, id_at(0), j);
         if (a.number != RING_OK) return a.number;
         number = ring_join(table, WORDS, j, a.values[1]).number;
         if (number != RING_NOT_BETWEEN && number != RING_DEAD_FIRST_ENTRY) return number;
-        for (place = 0; id_at(place) != a.values[1];) place++;
-        turn(place);
+        turn(place_of(a.values[1]));
     }
     return number;
 }
@@ -87,7 +101,7 @@ static void hold(void)
 
 int main(void)
 {
-    uint32_t ids[SHELVES], place, bytes;
+    uint32_t ids[SHELVES], place, bytes, steps;
     struct ring_answer a;
     for (place = 0; place < SHELVES; place++) ids[place] = 100 * place + 50;
 
@@ -95,7 +109,11 @@ int main(void)
     check(join(120) == RING_OK && join(130) == RING_OK && join(4000000000u) == RING_OK && join(7) == RING_OK, "four join");
     check(join(130) == RING_ALREADY_MEMBER, "one is there already");
     check(verdict() == RING_VERDICT_SOUND, "sound after joins");
-    for (place = 0; place < table[RING_MEMBERS]; place++) check(turn(place), "a turn ends");
+    steps = steps_of(550);
+    for (place = 0; place < table[RING_MEMBERS]; place++) check(id_at(place) == 550 || turn(place), "a turn ends");
+    for (place = 0; place < table[RING_MEMBERS]; place++) check(id_at(place) == 550 || steps_of(id_at(place)) > 0, "each has stabilized");
+    check(steps_of(550) == steps, "but 550 has not");
+    check(turn(place_of(550)) && steps_of(550) > steps, "then it has");
     check(ring_leave(table, WORDS, 350).number == RING_OK, "350 leaves");
     lost(450), lost(950);
     check(verdict() == RING_VERDICT_SOUND, "sound after losses");

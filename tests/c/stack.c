@@ -49,7 +49,7 @@ static uint32_t principals;          /* not a principal, a principal */
 static uint32_t verdicts;            /* of a round: 1, 2 */
 static uint32_t most_rounds;         /* that a settle ran */
 
-static uint32_t table[RING_TABLE_WORDS_MOST], other[RING_TABLE_WORDS_MOST];
+static uint32_t table[RING_TABLE_WORDS(RING_R_MOST, RING_MEMBERS_MOST + 1)], other[RING_TABLE_WORDS_MOST];
 static uint8_t image[RING_IMAGE_BYTES_MOST];
 static struct ring_finding findings[256];
 static uint32_t ids[256], keys[KEYS];

@@ -4,7 +4,8 @@ use super::*;
 
 #[inline(never)]
 pub fn new(words: &mut [u32], r: u32, ids: &[u32]) -> Answer {
-    let (width, list, members) = (r as usize + 4, r as usize, ids.len());
+    let (list, members) = (r as usize, ids.len());
+    let width = record_size(list);
     if !(1..=8).contains(&r)
         || members <= list
         || members > MEMBERS_MOST
@@ -22,14 +23,16 @@ pub fn new(words: &mut [u32], r: u32, ids: &[u32]) -> Answer {
     let mut below = ids[members - 1];
     for (record, ids) in straight.chunks_exact_mut(width).zip(ids.windows(list + 1)) {
         record[..4].copy_from_slice(&[ids[0], below, 0, 0]);
-        record[4..].copy_from_slice(&ids[1..]);
+        record[4..4 + list].copy_from_slice(&ids[1..]);
+        record[4 + list] = 0;
         below = ids[0];
     }
     for (k, record) in (members - list..).zip(round.chunks_exact_mut(width)) {
         record[..4].copy_from_slice(&[ids[k], ids[k - 1], 0, 0]);
-        let (front, back) = record[4..].split_at_mut(members - 1 - k);
+        let (front, back) = record[4..4 + list].split_at_mut(members - 1 - k);
         front.copy_from_slice(&ids[k + 1..]);
         back.copy_from_slice(&ids[..back.len()]);
+        record[4 + list] = 0;
     }
     reply([members as u32])
 }
@@ -50,6 +53,7 @@ pub fn join(words: &mut [u32], j: u32, p: u32) -> Answer {
         predecessor: p,
         pending: 0,
         candidate: 0,
+        steps: 0,
         ..Member::read(t.record(by))
     };
     if !between(p, j, joiner.successors[0]) {
@@ -68,7 +72,7 @@ pub fn join(words: &mut [u32], j: u32, p: u32) -> Answer {
     reply([words[1]])
 }
 
-/// The record at place k after one stabilize step, and what the step says.
+/// The record at place k after one stabilize step, which is not counted yet, and what the step says.
 #[inline(always)]
 pub(super) fn stepped(t: &Table, k: usize) -> (Member, Answer) {
     let member = Member::read(t.record(k));
@@ -113,8 +117,7 @@ pub fn stabilize(words: &mut [u32], n: u32) -> Answer {
     };
     let (member, said) = stepped(&t, k);
     let (at, width) = (t.offset(k), t.width);
-    member.write(&mut words[at..at + width]);
-    words[2] = words[2].saturating_add(1);
+    member.count_step().write(&mut words[at..at + width]);
     said
 }
 
@@ -353,7 +356,12 @@ mod whole {
     }
 
     fn image_size(r: usize, members: usize) -> usize {
-        FIRST + members * (16 + 4 * r) + LAST
+        FIRST + members * field_size(r) + LAST
+    }
+
+    /// The bytes of a member's field: four for each word of its record. Pending takes one of its four; the head takes the others.
+    fn field_size(r: usize) -> usize {
+        4 * record_size(r)
     }
 
     fn number2(bytes: &[u8], at: usize) -> usize {
@@ -387,10 +395,10 @@ mod whole {
         put2(first, 1, 7);
         first[3] = t.r as u8;
         put2(first, 4, t.members);
-        put4(first, 6, words[2]);
-        for (field, record) in fields.chunks_exact_mut(16 + 4 * t.r).zip(t.records()) {
+        put4(first, 6, 0);
+        for (field, record) in fields.chunks_exact_mut(field_size(t.r)).zip(t.records()) {
             field[0] = 2;
-            put2(field, 1, 13 + 4 * t.r);
+            put2(field, 1, field_size(t.r) - 3);
             put4(field, 3, record[0]);
             put4(field, 7, record[1]);
             field[11] = record[2] as u8;
@@ -408,17 +416,20 @@ mod whole {
             return None;
         }
         let (r, members) = (usize::from(image[3]), number2(image, 4));
-        if !(1..=8).contains(&r) || members > MEMBERS_MOST || image.len() != image_size(r, members)
+        if !(1..=8).contains(&r)
+            || members > MEMBERS_MOST
+            || number4(image, 6) != 0
+            || image.len() != image_size(r, members)
         {
             return None;
         }
         let (fields, last) = image[FIRST..].split_at(image.len() - FIRST - LAST);
         let mut lowest = 0;
-        for field in fields.chunks_exact(16 + 4 * r) {
+        for field in fields.chunks_exact(field_size(r)) {
             let (id, pending, candidate) =
                 (u64::from(number4(field, 3)), field[11], number4(field, 12));
             if field[0] != 2
-                || number2(field, 1) != 13 + 4 * r
+                || number2(field, 1) != field_size(r) - 3
                 || id < lowest
                 || pending > 1
                 || (pending == 0 && candidate != 0)
@@ -435,13 +446,14 @@ mod whole {
         let Some((r, members)) = judged(image) else {
             return declined(9);
         };
-        let Some(words) = words.get_mut(..HEADER + members * (r + 4)) else {
+        let width = record_size(r);
+        let Some(words) = words.get_mut(..HEADER + members * width) else {
             return declined(10);
         };
         let (header, records) = words.split_at_mut(HEADER);
-        header.copy_from_slice(&[r as u32, members as u32, number4(image, 6)]);
-        let fields = image[FIRST..].chunks_exact(16 + 4 * r);
-        for (record, field) in records.chunks_exact_mut(r + 4).zip(fields) {
+        header.copy_from_slice(&[r as u32, members as u32, 0]);
+        let fields = image[FIRST..].chunks_exact(field_size(r));
+        for (record, field) in records.chunks_exact_mut(width).zip(fields) {
             record[0] = number4(field, 3);
             record[1] = number4(field, 7);
             record[2] = u32::from(field[11]);

@@ -49,8 +49,7 @@ impl Shape {
         let mut due = 1 + words[at + 2];
         while due > 0 {
             let (member, said) = stepped(&self.table(words), k);
-            member.write(&mut words[at..at + self.width]);
-            words[2] = words[2].saturating_add(1);
+            member.count_step().write(&mut words[at..at + self.width]);
             let [2, h, ..] = said.values else {
                 continue;
             };

@@ -2,6 +2,7 @@
 //! Answers and whole buffers, guards too, must be equal afterwards.
 
 mod alone;
+mod counts;
 mod find;
 mod ideal;
 mod join;
@@ -19,6 +20,7 @@ use crate::calls::{Calls, REFERENCE};
 use crate::random::mix;
 use crate::reference::{Answer, Runs};
 use alone::Alone;
+use counts::{Counts, Made};
 use find::Finds;
 use ideal::Ideals;
 use join::Joins;
@@ -80,6 +82,9 @@ fn place(name: &str) -> usize {
 pub trait Reply: PartialEq {
     fn number(&self) -> u32;
 
+    /// The values of the reply.
+    fn values(&self) -> [u32; 4];
+
     /// The answer as it is printed.
     fn told(&self) -> String;
 
@@ -90,6 +95,10 @@ pub trait Reply: PartialEq {
 impl Reply for Answer {
     fn number(&self) -> u32 {
         self.number
+    }
+
+    fn values(&self) -> [u32; 4] {
+        self.values
     }
 
     fn told(&self) -> String {
@@ -110,6 +119,10 @@ impl Reply for Answer {
 impl Reply for Runs {
     fn number(&self) -> u32 {
         self.number
+    }
+
+    fn values(&self) -> [u32; 4] {
+        [0; 4]
     }
 
     fn told(&self) -> String {
@@ -160,6 +173,7 @@ pub struct Compare {
     turns: Turns,
     finds: Finds,
     passed: Passed,
+    step_counts: Counts,
     /// Tells each call on standard error before it is made.
     pub trace: bool,
 }
@@ -189,6 +203,7 @@ impl Compare {
             turns: Turns::new(),
             finds: Finds::new(),
             passed: Passed::new(),
+            step_counts: Counts::new(),
             trace: false,
         }
     }
@@ -215,7 +230,8 @@ impl Compare {
         text += &format!("  settle: {}\n", self.settles.told());
         text += &format!("  turns: {}\n", self.turns.told());
         text += &format!("  find: {}\n", self.finds.told());
-        text + &format!("  passed: {}\n", self.passed.told())
+        text += &format!("  passed: {}\n", self.passed.told());
+        text + &format!("  counts: {}\n", self.step_counts.told())
     }
 
     /// A call with a number that it can give but never gave, or a shape that
@@ -239,9 +255,13 @@ impl Compare {
             ("turns:", self.turns.never_met()),
             ("find:", self.finds.never_met()),
             ("passed:", self.passed.never_met()),
+            ("counts:", self.step_counts.never_met()),
         ];
         let never = |(what, shape): &(_, Option<_>)| shape.map(|shape| format!("{what} {shape}"));
-        let kinds = || self.ideals.kinds_never_met().or(self.finds.kinds_never_met());
+        let kinds = || {
+            let lists = self.ideals.kinds_never_met().or(self.finds.kinds_never_met());
+            lists.or(self.step_counts.kinds_never_met())
+        };
         shapes.iter().find_map(never).or_else(kinds)
     }
 
@@ -316,7 +336,8 @@ impl Compare {
     }
 
     /// A call on a table. Before and after it the members are asked for their
-    /// parts of some keys, and whether they are principals.
+    /// parts of some keys, and whether they are principals; their step counts are
+    /// held to the rule.
     fn on_table<B: Element, R: Reply>(
         &mut self,
         name: &str,
@@ -327,6 +348,13 @@ impl Compare {
     ) -> Result<Outcome<u32, B, R>> {
         self.ask_parts(table.slice())?;
         let outcome = self.run(name, arguments, table, second, call)?;
+        let (number, values) = (outcome.answer.number(), outcome.answer.values());
+        let first = arguments.first().map_or(0, |&first| first as u32);
+        let made = Made { name, first, number, values };
+        made.rule(table.slice(), &outcome.first).map_err(|what| {
+            format!("REFERENCE in {name} {arguments:?}, {what}\n  table {table:?}\n")
+        })?;
+        self.step_counts.count(&made, table.slice(), &outcome.first);
         if outcome.first != table.slice() {
             self.ask_parts(&outcome.first)?;
         }
@@ -371,7 +399,9 @@ impl Compare {
 
     pub fn alike(&mut self, a: &Piece<u32>, b: &Piece<u32>) -> Result<Outcome<u32, u32>> {
         self.ask_parts(b.slice())?;
-        self.on_table("alike", &[], a, b, |c, a, b| (c.alike)(a, b))
+        let outcome = self.on_table("alike", &[], a, b, |c, a, b| (c.alike)(a, b))?;
+        self.count_second(a, b, outcome.answer)?;
+        Ok(outcome)
     }
 
     /// Both slices are the same one.
@@ -406,7 +436,10 @@ impl Compare {
         table: &Piece<u32>,
         image: &Piece<u8>,
     ) -> Result<Outcome<u32, u8>> {
-        self.on_table("image_read", &[], table, image, |c, t, i| (c.image_read)(t, i))
+        let outcome =
+            self.on_table("image_read", &[], table, image, |c, t, i| (c.image_read)(t, i))?;
+        self.count_image(outcome.answer.number, &outcome.first, image.slice())?;
+        Ok(outcome)
     }
 
     pub fn image_field(&mut self, image: &Piece<u8>, position: usize) -> Result<Outcome<u8, u8>> {

@@ -2,13 +2,14 @@
 //! them. No other file of it counts words or bytes; the reference and the second writing have
 //! numbers of their own.
 
-// The words of a table's header, and how many they are.
+// The words of a table's header, and how many they are. Its step count is 0 always.
 pub const R: usize = 0;
 pub const COUNT: usize = 1;
 pub const STEPS: usize = 2;
 pub const HEADER: usize = 3;
 
-// The words of a record; its list of r entries begins at the last of these.
+// The words of a record; its list of r entries begins at the last of these, and after the list
+// stands its step count.
 pub const ID: usize = 0;
 pub const PREDECESSOR: usize = 1;
 pub const PENDING: usize = 2;
@@ -17,12 +18,17 @@ pub const LIST: usize = 4;
 
 /// How many words a record has.
 pub const fn width(r: usize) -> usize {
-    LIST + r
+    LIST + r + 1
 }
 
 /// The word at which the record at a place begins.
 pub const fn record_at(r: usize, place: usize) -> usize {
     HEADER + place * width(r)
+}
+
+/// The word at which the step count of the record at a place stands.
+pub const fn steps_at(r: usize, place: usize) -> usize {
+    record_at(r, place) + LIST + r
 }
 
 /// How many words a table has.
@@ -53,6 +59,11 @@ pub fn list(record: &[u32]) -> &[u32] {
     &record[LIST..][..record.len() - width(0)]
 }
 
+/// The step count of a record.
+pub fn steps(record: &[u32]) -> u32 {
+    record[record.len() - 1]
+}
+
 // A field of an image: its head is a tag and two bytes for the length of the contents, the
 // high one first; then come the contents.
 pub const TAG: usize = 0;
@@ -70,9 +81,10 @@ const FIRST_COUNT: usize = FIRST_R + 1;
 pub const FIRST_STEPS: usize = FIRST_COUNT + 2;
 pub const MEMBERS: usize = FIRST_STEPS + 4;
 
-/// The length of a member's contents: three numbers, a byte for pending, and the list.
+/// The length of a member's contents: three numbers, a byte for pending, the list, and the
+/// step count.
 pub const fn member_length(r: usize) -> usize {
-    13 + 4 * r
+    17 + 4 * r
 }
 
 /// How many bytes a member's field has.
@@ -84,6 +96,12 @@ pub const fn field_width(r: usize) -> usize {
 /// last field.
 pub const fn field_at(r: usize, place: usize) -> usize {
     MEMBERS + place * field_width(r)
+}
+
+/// The step count in the field of the member at a place.
+pub fn field_steps(image: &[u8], place: usize) -> u32 {
+    let end = field_at(image_r(image), place + 1);
+    u32::from_be_bytes([image[end - 4], image[end - 3], image[end - 2], image[end - 1]])
 }
 
 /// r as an image of `FIRST_STEPS` bytes or more says it.
@@ -111,7 +129,7 @@ pub fn first_field(r: u32, count: u32, steps: u32) -> Vec<u8> {
     field
 }
 
-/// The parts of a table, which need not fit together.
+/// The parts of a table, which need not fit together. `steps` is the header's count.
 #[derive(Clone)]
 pub struct Raw {
     pub r: u32,
@@ -127,13 +145,15 @@ pub struct Record {
     pub pending: u32,
     pub candidate: u32,
     pub list: Vec<u32>,
+    pub steps: u32,
 }
 
 impl Record {
-    /// A record whose step is pending where there is a candidate.
+    /// A record whose step is pending where there is a candidate, and of which no step is
+    /// counted.
     pub fn new(id: u32, predecessor: u32, candidate: Option<u32>, list: Vec<u32>) -> Record {
         let pending = candidate.is_some() as u32;
-        Record { id, predecessor, pending, candidate: candidate.unwrap_or(0), list }
+        Record { id, predecessor, pending, candidate: candidate.unwrap_or(0), list, steps: 0 }
     }
 
     fn of(words: &[u32]) -> Record {
@@ -143,33 +163,54 @@ impl Record {
             pending: words[PENDING],
             candidate: words[CANDIDATE],
             list: list(words).to_vec(),
+            steps: steps(words),
         }
     }
 
-    fn words(&self) -> Vec<u32> {
+    /// The words of a record as it was before it had a step count of its own.
+    fn older_words(&self) -> Vec<u32> {
         let mut words = vec![self.id, self.predecessor, self.pending, self.candidate];
         words.extend(&self.list);
         words
     }
 
-    /// The member's field.
-    fn field(&self) -> Vec<u8> {
-        let mut field = head(MEMBER, member_length(self.list.len()));
-        field.extend(self.id.to_be_bytes());
-        field.extend(self.predecessor.to_be_bytes());
-        field.push(self.pending as u8);
-        field.extend(self.candidate.to_be_bytes());
-        for entry in &self.list {
-            field.extend(entry.to_be_bytes());
-        }
-        field
+    fn words(&self) -> Vec<u32> {
+        let mut words = self.older_words();
+        words.push(self.steps);
+        words
     }
+
+    /// The contents of the member's field as they were before.
+    fn older_contents(&self) -> Vec<u8> {
+        let mut contents = Vec::new();
+        contents.extend(self.id.to_be_bytes());
+        contents.extend(self.predecessor.to_be_bytes());
+        contents.push(self.pending as u8);
+        contents.extend(self.candidate.to_be_bytes());
+        for entry in &self.list {
+            contents.extend(entry.to_be_bytes());
+        }
+        contents
+    }
+
+    fn contents(&self) -> Vec<u8> {
+        let mut contents = self.older_contents();
+        contents.extend(self.steps.to_be_bytes());
+        contents
+    }
+}
+
+/// A member's field of these contents.
+fn member_field(contents: Vec<u8>) -> Vec<u8> {
+    let mut field = head(MEMBER, contents.len());
+    field.extend(contents);
+    field
 }
 
 impl Raw {
     /// The table of these records.
-    pub fn new(r: usize, steps: u32, records: Vec<Record>) -> Raw {
-        Raw { r: r as u32, count: records.len() as u32, steps, records }
+    pub fn new(r: usize, records: Vec<Record>) -> Raw {
+        Raw { r: r as u32, count: records.len() as u32, steps: 0, records }
     }
 
     /// The parts of a well-formed table.
@@ -183,21 +224,40 @@ impl Raw {
         width(self.r as usize)
     }
 
-    pub fn words(&self) -> Vec<u32> {
-        let mut words = vec![self.r, self.count, self.steps];
-        self.records.iter().for_each(|record| words.extend(record.words()));
-        words
+    /// The header and these words of the records.
+    fn words_of(&self, record: impl Fn(&Record) -> Vec<u32>) -> Vec<u32> {
+        let header = vec![self.r, self.count, self.steps];
+        header.into_iter().chain(self.records.iter().flat_map(record)).collect()
     }
 
-    /// The fields of the image, each with its tag and length bytes.
-    pub fn fields(&self) -> Vec<Vec<u8>> {
+    pub fn words(&self) -> Vec<u32> {
+        self.words_of(Record::words)
+    }
+
+    /// The words in the layout before this one: one step count, in the header.
+    pub fn older_words(&self) -> Vec<u32> {
+        self.words_of(Record::older_words)
+    }
+
+    /// The fields of an image whose members have these contents, each with its tag and length
+    /// bytes.
+    fn fields_of(&self, contents: impl Fn(&Record) -> Vec<u8>) -> Vec<Vec<u8>> {
         let mut fields = vec![first_field(self.r, self.count, self.steps)];
-        fields.extend(self.records.iter().map(Record::field));
+        fields.extend(self.records.iter().map(|record| member_field(contents(record))));
         fields.push(head(LAST, 0));
         fields
     }
 
+    pub fn fields(&self) -> Vec<Vec<u8>> {
+        self.fields_of(Record::contents)
+    }
+
     pub fn image(&self) -> Vec<u8> {
         self.fields().concat()
+    }
+
+    /// The image in the layout before this one.
+    pub fn older_image(&self) -> Vec<u8> {
+        self.fields_of(Record::older_contents).concat()
     }
 }

@@ -1,8 +1,12 @@
 //! Makes inputs: identifiers, tables well-formed and not, images whole and
 //! damaged.
 
+mod counts;
 mod sound;
 
+pub use counts::{
+    count_apart, count_steps, count_to_the_end, counted, header_steps, older_image, older_table,
+};
 pub use sound::{cut_off, slowest, sound, stale, stalest, Ring};
 
 use crate::compare::Piece;
@@ -52,16 +56,6 @@ impl Space {
 pub fn junk(random: &mut Random, count: usize) -> Vec<u32> {
     let small = random.one_in(3);
     (0..count).map(|_| if small { random.below(12) as u32 } else { random.word() | 1 }).collect()
-}
-
-fn step_count(random: &mut Random) -> u32 {
-    match random.below(6) {
-        0 => 0,
-        1 => u32::MAX,
-        2 => u32::MAX - 1,
-        3 => random.word(),
-        _ => random.below(1000) as u32,
-    }
 }
 
 fn member_count(random: &mut Random) -> usize {
@@ -163,7 +157,7 @@ pub fn well_formed(random: &mut Random, count: Option<usize>) -> Raw {
         };
         records.push(Record::new(ids[i], predecessor, candidate, list));
     }
-    Raw::new(r, step_count(random), records)
+    counted(random, r, records)
 }
 
 /// A table of few identifiers, so that most shapes come up.
@@ -187,7 +181,7 @@ pub fn tiny(random: &mut Random) -> (Raw, Vec<u32>) {
             Record::new(id, predecessor, candidate, list)
         })
         .collect();
-    (Raw::new(r, step_count(random), records), pool)
+    (counted(random, r, records), pool)
 }
 
 /// A slice for a well-formed table, with more or less room after it.
@@ -210,7 +204,7 @@ pub fn malformed(random: &mut Random) -> Piece<u32> {
     let mut raw = well_formed(random, None);
     let n = raw.records.len();
     let width = raw.width();
-    match random.below(14) {
+    match random.below(18) {
         // Random words.
         0 => {
             let count = random.below(60);
@@ -256,6 +250,10 @@ pub fn malformed(random: &mut Random) -> Piece<u32> {
             raw.records[i].pending = 0;
             raw.records[i].candidate = random.pick(&[1, u32::MAX, raw.records[i].list[0]]);
         }
+        // A header that counts steps.
+        12 | 13 => raw.steps = header_steps(random),
+        // The layout before this one.
+        14 | 15 => return older_table(random, &raw),
         // Cut near its end or anywhere, with the rest after the slice.
         _ => {
             let words = raw.words();
@@ -293,6 +291,9 @@ pub fn names(random: &mut Random, words: &[u32], count: usize) -> Vec<u32> {
 pub fn damaged(random: &mut Random, raw: &Raw) -> Vec<u8> {
     let mut raw = raw.clone();
     let n = raw.records.len();
+    if random.one_in(20) {
+        return older_image(random, &raw);
+    }
     // Damages to the parts, written as they are.
     match random.below(30) {
         0 => raw.count = raw.count.wrapping_add(random.pick(&[1, 255, 256, 0x100])),
@@ -322,6 +323,7 @@ pub fn damaged(random: &mut Random, raw: &Raw) -> Vec<u8> {
             raw.records.pop();
         }
         12 if n > 0 => raw.records.push(raw.records[n - 1].clone()),
+        13 | 14 => raw.steps = header_steps(random),
         _ => {}
     }
     let mut fields = raw.fields();
@@ -361,6 +363,17 @@ pub fn damaged(random: &mut Random, raw: &Raw) -> Vec<u8> {
             fields[f].pop();
         }
         14 => fields.push(layout::head(layout::LAST, 0)),
+        // A field without its last number, or with that one twice.
+        15 if fields[f].len() > HEAD => {
+            let end = fields[f].len() - 4;
+            fields[f].truncate(end);
+            fields[f][low] = fields[f][low].wrapping_sub(4);
+        }
+        16 if fields[f].len() > HEAD => {
+            let end = fields[f].len() - 4;
+            fields[f].extend_from_within(end..);
+            fields[f][low] = fields[f][low].wrapping_add(4);
+        }
         _ => {}
     }
     let mut image = fields.concat();

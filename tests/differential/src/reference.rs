@@ -3,9 +3,11 @@
 //! A refusal changes no buffer, and only the words a call writes change.
 
 mod calls;
+mod image;
 mod steps;
 
 pub use calls::*;
+pub use image::{image_field, image_read, image_write};
 pub use steps::{round, settle};
 
 /// `number` is 0 or the number that declines; `count` values are there, unused ones are 0.
@@ -88,9 +90,16 @@ struct Member {
     pending: bool,
     candidate: u32,
     list: Vec<u32>,
+    steps: u32,
 }
 
 impl Member {
+    /// A shelf that becomes a member: nothing pending, and its own step count "0 on joining
+    /// and by new".
+    fn starting(identifier: u32, predecessor: u32, list: Vec<u32>) -> Member {
+        Member { identifier, predecessor, pending: false, candidate: 0, list, steps: 0 }
+    }
+
     fn extended_list(&self) -> Vec<u32> {
         let mut all = vec![self.identifier];
         all.extend_from_slice(&self.list);
@@ -114,12 +123,19 @@ impl Member {
         self.list.remove(0);
         self.list.push(after(last));
     }
+
+    /// "Each accepted stabilize step adds 1 to its own member's count, which stops at
+    /// 4294967295."
+    fn count_step(&mut self) {
+        if self.steps < u32::MAX {
+            self.steps += 1;
+        }
+    }
 }
 
 #[derive(Clone, PartialEq)]
 struct Table {
     r: usize,
-    steps: u32,
     members: Vec<Member>,
 }
 
@@ -131,16 +147,18 @@ impl Table {
             return None;
         }
         let (r, count, steps) = (words[0], words[1], words[2]);
-        if !(1..=8).contains(&r) || count > MOST as u32 {
+        // "The header's step count becomes 0 always. A header with another number there is
+        // not well-formed."
+        if !(1..=8).contains(&r) || count > MOST as u32 || steps != 0 {
             return None;
         }
         let (r, count) = (r as usize, count as usize);
         let records = &words[HEADER..];
-        if records.len() < count * (r + 4) {
+        if records.len() < count * (r + 5) {
             return None;
         }
         let mut members = Vec::new();
-        for record in records.chunks_exact(r + 4).take(count) {
+        for record in records.chunks_exact(r + 5).take(count) {
             if record[2] > 1 {
                 return None;
             }
@@ -149,10 +167,11 @@ impl Table {
                 predecessor: record[1],
                 pending: record[2] == 1,
                 candidate: record[3],
-                list: record[4..].to_vec(),
+                list: record[4..4 + r].to_vec(),
+                steps: record[4 + r],
             });
         }
-        let table = Table { r, steps, members };
+        let table = Table { r, members };
         if table.is_well_formed() {
             Some(table)
         } else {
@@ -170,20 +189,21 @@ impl Table {
     }
 
     fn encode(&self) -> Vec<u32> {
-        let mut words = vec![self.r as u32, self.members.len() as u32, self.steps];
+        let mut words = vec![self.r as u32, self.members.len() as u32, 0];
         for m in &self.members {
             words.push(m.identifier);
             words.push(m.predecessor);
             words.push(m.pending as u32);
             words.push(m.candidate);
             words.extend_from_slice(&m.list);
+            words.push(m.steps);
         }
         words
     }
 
-    /// The words of one record.
+    /// "Record width is r + 5"
     fn width(&self) -> usize {
-        self.r + 4
+        self.r + 5
     }
 
     fn length(&self) -> usize {
@@ -338,92 +358,6 @@ impl Table {
         let own = self.encode();
         words[..own.len()].copy_from_slice(&own);
     }
-
-    fn image(&self) -> Vec<u8> {
-        let mut image = Vec::new();
-        let mut head = vec![self.r as u8];
-        head.extend_from_slice(&(self.members.len() as u16).to_be_bytes());
-        head.extend_from_slice(&self.steps.to_be_bytes());
-        push_field(&mut image, 1, &head);
-        for m in &self.members {
-            let mut record = Vec::new();
-            record.extend_from_slice(&m.identifier.to_be_bytes());
-            record.extend_from_slice(&m.predecessor.to_be_bytes());
-            record.push(m.pending as u8);
-            record.extend_from_slice(&m.candidate.to_be_bytes());
-            for entry in &m.list {
-                record.extend_from_slice(&entry.to_be_bytes());
-            }
-            push_field(&mut image, 2, &record);
-        }
-        push_field(&mut image, 3, &[]);
-        image
-    }
-
-    /// The table whose writing the image is, if there is one.
-    fn of_image(image: &[u8]) -> Option<Table> {
-        let head = field_with(image, 0, 1, 7)?;
-        let contents = &image[head.contents..head.next];
-        let r = contents[0] as usize;
-        let count = two_bytes(&contents[1..]) as usize;
-        let steps = four_bytes(&contents[3..]);
-        let mut position = head.next;
-        let mut members = Vec::new();
-        for _ in 0..count {
-            let field = field_with(image, position, 2, 13 + 4 * r)?;
-            let contents = &image[field.contents..field.next];
-            if contents[8] > 1 {
-                return None;
-            }
-            members.push(Member {
-                identifier: four_bytes(contents),
-                predecessor: four_bytes(&contents[4..]),
-                pending: contents[8] == 1,
-                candidate: four_bytes(&contents[9..]),
-                list: contents[13..].chunks_exact(4).map(four_bytes).collect(),
-            });
-            position = field.next;
-        }
-        let table = Table { r, steps, members };
-        if table.is_well_formed() && table.image() == image {
-            Some(table)
-        } else {
-            None
-        }
-    }
-}
-
-/// "one-byte tag, two-byte length, contents; high byte first"
-fn push_field(image: &mut Vec<u8>, tag: u8, contents: &[u8]) {
-    image.push(tag);
-    image.extend_from_slice(&(contents.len() as u16).to_be_bytes());
-    image.extend_from_slice(contents);
-}
-
-fn two_bytes(bytes: &[u8]) -> u16 {
-    u16::from_be_bytes([bytes[0], bytes[1]])
-}
-
-fn four_bytes(bytes: &[u8]) -> u32 {
-    u32::from_be_bytes([bytes[0], bytes[1], bytes[2], bytes[3]])
-}
-
-struct Field {
-    contents: usize,
-    next: usize,
-}
-
-/// The field at a position inside the image, if it is whole and has this tag
-/// and this length.
-fn field_with(image: &[u8], position: usize, tag: u8, length: usize) -> Option<Field> {
-    let rest = image.get(position..)?;
-    if rest.len() < 3 || rest[0] != tag || two_bytes(&rest[1..]) as usize != length {
-        return None;
-    }
-    if rest.len() - 3 < length {
-        return None;
-    }
-    Some(Field { contents: position + 3, next: position + 3 + length })
 }
 
 #[cfg(test)]
@@ -439,15 +373,15 @@ mod settled {
         assert!(!between(10, 20, 20)); // (e)
 
         // (f), (g): the list after a dead head is dropped.
-        let mut table = [2, 1, 0, 5, 5, 0, 0, 100, u32::MAX];
+        let mut table = [2, 1, 0, 5, 5, 0, 0, 100, u32::MAX, 6];
         assert_eq!(stabilize(&mut table, 5), accept(&[0]));
-        assert_eq!(table, [2, 1, 1, 5, 5, 0, 0, u32::MAX, 0]);
-        let mut table = [1, 1, 0, 5, 5, 0, 0, 7];
+        assert_eq!(table, [2, 1, 0, 5, 5, 0, 0, u32::MAX, 0, 7]);
+        let mut table = [1, 1, 0, 5, 5, 0, 0, 7, 0];
         assert_eq!(stabilize(&mut table, 5), accept(&[0]));
-        assert_eq!(table, [1, 1, 1, 5, 5, 0, 0, 8]);
+        assert_eq!(table, [1, 1, 0, 5, 5, 0, 0, 8, 1]);
 
         // (h), (i), (j)
-        let mut table = [0; 21];
+        let mut table = [0; 24];
         assert_eq!(new(&mut table, 2, &[10, 20, 30]), accept(&[3]));
         assert_eq!(audit(&table), accept(&[3, 3, 3, 2]));
         assert_eq!(leave(&mut table, 10), decline(7));
@@ -455,8 +389,22 @@ mod settled {
     }
 
     #[test]
+    fn own_counts() {
+        // Any word may stand as a member's count, 0 alone in the header.
+        for count in [1, 77, u32::MAX] {
+            assert_eq!(members(&[1, 1, 0, 5, 5, 0, 0, 5, count]), Some(vec![5]));
+            assert_eq!(members(&[1, 1, count, 5, 5, 0, 0, 5, 0]), None);
+            assert_eq!(members(&[1, 0, count]), None);
+        }
+        // Two records of the layout before this one, read as 5 and 7.
+        let older = [1, 2, 0, 5, 9, 0, 0, 9, 9, 7, 0, 0, 0, 3, 4];
+        assert_eq!(members(&older), Some(vec![5, 7]));
+        assert_eq!(members(&older[..14]), None);
+    }
+
+    #[test]
     fn held_keys() {
-        let mut table = [0; 27];
+        let mut table = [0; 31];
         new(&mut table, 2, &[10, 20, 30, 40]);
         let keys = [0, 10, 11, 20, 35, 40, 41, u32::MAX];
         assert_eq!(held(&table, 10, &keys), runs(0, &[(6, 8), (0, 2)]));
@@ -465,12 +413,12 @@ mod settled {
         assert_eq!(held(&table, 40, &keys), runs(0, &[(4, 6)]));
         assert_eq!(held(&table, 15, &[1, 1]), runs(3, &[]));
         assert_eq!(held(&table, 20, &[1, 1]), runs(12, &[]));
-        assert_eq!(held(&table[..26], 20, &keys), runs(1, &[]));
+        assert_eq!(held(&table[..30], 20, &keys), runs(1, &[]));
     }
 
     #[test]
     fn pairs_taken() {
-        let mut table = [0; 33];
+        let mut table = [0; 38];
         new(&mut table, 2, &[10, 20, 30, 40]);
         assert_eq!(principal(&table, 10), accept(&[1, 8]));
         assert_eq!(principal(&table, 25), decline(3));
@@ -478,9 +426,12 @@ mod settled {
         join(&mut table, 25, 20);
         assert_eq!(principal(&table, 25), accept(&[0, 2]));
         assert_eq!(principal(&table, 20), accept(&[1, 10]));
-        assert_eq!(principal(&table[..32], 50), decline(1));
-        // Each pair skips another member, the last one 10.
-        let two = [1, 4, 0, 10, 30, 0, 0, 30, 20, 40, 0, 0, 40, 30, 10, 0, 0, 10, 40, 20, 0, 0, 20];
+        assert_eq!(principal(&table[..37], 50), decline(1));
+        // Each pair skips another member, the last one 10; a count is no entry.
+        let mut two = vec![1, 4, 0];
+        for (id, entry, steps) in [(10, 30, 25), (20, 40, 15), (30, 10, 45), (40, 20, 5)] {
+            two.extend([id, entry, 0, 0, entry, steps]);
+        }
         for (n, taken) in [(20, 1), (30, 2), (40, 3), (10, 4)] {
             assert_eq!(principal(&two, n), accept(&[0, taken]));
         }

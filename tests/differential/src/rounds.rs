@@ -1,6 +1,7 @@
 //! The rounds of the differential test. Each has its own seed, so a round that
 //! finds a difference can be run again alone.
 
+mod counts;
 mod find;
 mod held;
 mod ideal;
@@ -10,6 +11,7 @@ mod others;
 mod principal;
 mod settle;
 
+use counts::counts;
 use find::{find, full_find};
 use held::{held, held_calls};
 use ideal::{full_ideal, ideal};
@@ -20,7 +22,7 @@ use principal::principal;
 use settle::{full_settling, settle_calls, settling};
 
 use crate::compare::{Compare, Element, Piece};
-use crate::layout::{self, Raw, COUNT, STEPS};
+use crate::layout::{self, Raw, COUNT, HEADER};
 use crate::make::{self, Space};
 use crate::random::{mix, Random};
 use crate::reference::{self, Finding};
@@ -30,7 +32,7 @@ type Result = std::result::Result<(), String>;
 type Round = fn(&mut Compare, &mut Random) -> Result;
 
 /// The kinds of rounds in turn.
-const KINDS: [(&str, Round); 21] = [
+const KINDS: [(&str, Round); 22] = [
     ("tiny", tiny),
     ("sound churn", sound_churn),
     ("broken", broken),
@@ -52,6 +54,7 @@ const KINDS: [(&str, Round); 21] = [
     ("ideal", ideal),
     ("settle", settling),
     ("find", find),
+    ("counts", counts),
 ];
 
 /// Runs one round; the error tells what differs and how to see it again.
@@ -99,6 +102,12 @@ fn filler<T: Element>(random: &mut Random, count: usize) -> Vec<T> {
 /// The identifiers of a well-formed table's members.
 fn members(words: &[u32]) -> Vec<u32> {
     Raw::of(words).records.iter().map(|m| m.id).collect()
+}
+
+/// Writes a table over the first words of a slice.
+fn put(t: &mut Piece<u32>, raw: &Raw) {
+    let words = raw.words();
+    t.all[..words.len()].copy_from_slice(&words);
 }
 
 fn is_well_formed(table: &Piece<u32>) -> bool {
@@ -266,8 +275,13 @@ fn run_churn(compare: &mut Compare, random: &mut Random, sound: bool, length: us
     let slice = make::junk(random, layout::size(r, n) + room);
     let made = compare.make(&Piece::whole(slice), r as u32, &Piece::whole(ids))?;
     let mut t = Piece::whole(made.first);
-    if random.one_in(4) {
-        t.all[STEPS] = u32::MAX - random.below(20) as u32;
+    if random.one_in(2) {
+        let mut raw = Raw::of(t.slice());
+        match random.one_in(2) {
+            true => make::count_to_the_end(random, &mut raw, 8),
+            false => make::count_steps(random, &mut raw),
+        }
+        put(&mut t, &raw);
     }
     let mut notices: Vec<(u32, u32)> = Vec::new();
     for _ in 0..length {

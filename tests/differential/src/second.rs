@@ -2,7 +2,9 @@
 //! can be planted one at a time. Without a planted fault it stands in for the
 //! library when no archive is linked.
 
+mod alone;
 mod calls;
+mod counts;
 mod faults;
 mod held;
 mod ideal;
@@ -12,8 +14,9 @@ mod passed;
 mod principal;
 mod settle;
 
+pub use alone::ALONE;
 pub use calls::*;
-pub use faults::{plant, Fault, ALONE, FAULTS};
+pub use faults::{plant, Fault, FAULTS};
 pub use held::*;
 pub use image::*;
 pub use join::*;
@@ -54,8 +57,13 @@ fn size(t: &[u32]) -> usize {
     t[1] as usize
 }
 
+/// How many entries a list has.
+fn span(t: &[u32]) -> usize {
+    t[0] as usize
+}
+
 fn width(t: &[u32]) -> usize {
-    t[0] as usize + 4
+    span(t) + 5
 }
 
 fn offset(t: &[u32], i: usize) -> usize {
@@ -71,7 +79,7 @@ fn id(t: &[u32], i: usize) -> u32 {
 }
 
 fn list(t: &[u32], i: usize) -> &[u32] {
-    &t[offset(t, i) + 4..offset(t, i + 1)]
+    &t[offset(t, i) + 4..][..span(t)]
 }
 
 fn find(t: &[u32], identifier: u32) -> Option<usize> {
@@ -88,8 +96,10 @@ fn find(t: &[u32], identifier: u32) -> Option<usize> {
     (low < size(t) && id(t, low) == identifier).then_some(low)
 }
 
-fn formed(t: &[u32]) -> bool {
-    if t.len() < 3 {
+/// Is the table well-formed? By the fault `unjudged` one call does not look at the header's
+/// step count.
+fn formed(t: &[u32], unjudged: Fault) -> bool {
+    if t.len() < 3 || !counts::header_is_formed(t, unjudged) {
         return false;
     }
     let most_r = if planted(Fault::FormR) { 9 } else { 8 };
@@ -115,13 +125,16 @@ fn formed(t: &[u32]) -> bool {
         if t[o + 2] == 0 && t[o + 3] != 0 && !planted(Fault::FormCandidate) {
             return false;
         }
+        if planted(Fault::FormCount) && t[counts::at(t, i)] == u32::MAX {
+            return false;
+        }
     }
     true
 }
 
 fn first_live(t: &[u32], i: usize) -> Option<usize> {
     let mut k = 0;
-    while k + 4 < width(t) {
+    while k < span(t) + planted(Fault::CountLive) as usize {
         let found = find(t, t[offset(t, i) + 4 + k]);
         if found.is_some() {
             return found;
@@ -140,11 +153,14 @@ fn unskipped(t: &[u32], identifier: u32, without: Option<usize>) -> bool {
         let mut a = id(t, i);
         for (k, &b) in list(t, i).iter().enumerate() {
             let passed = (k == 0 && planted(Fault::FirstPair))
-                || (k > 0 && k + 5 == width(t) && planted(Fault::LastPair));
+                || (k > 0 && k + 1 == span(t) && planted(Fault::LastPair));
             if between(a, identifier, b) && !passed {
                 return false;
             }
             a = b;
+        }
+        if planted(Fault::CountSkips) && between(a, identifier, t[counts::at(t, i)]) {
+            return false;
         }
     }
     true

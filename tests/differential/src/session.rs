@@ -10,7 +10,7 @@ const MOST_BYTES: usize = 65_536;
 pub fn run(input: &[u8], calls: &Calls) -> String {
     let input = &input[..input.len().min(MOST_BYTES)];
     // No members, r is 1.
-    let mut table = Raw::new(1, 0, Vec::new()).words();
+    let mut table = Raw::new(1, Vec::new()).words();
     table.resize(LONGEST, 0);
     let mut printed = String::new();
     // A final line feed opens no further line.

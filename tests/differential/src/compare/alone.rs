@@ -97,7 +97,7 @@ impl Run<'_> {
         let before = self.table.clone();
         let known = is_member(self.table.words(), j);
         let live = first_entry(self.table.words(), p).is_some_and(|(_, live)| live);
-        let number = self.table.call("join", &[j, p], |c, t| (c.join)(t, j, p)).number;
+        let number = self.table.call("join", &[j, p], |c, t| (c.join)(t, j, p))?.number;
         let told = format!("{j} by {p} is given {number}");
         if number != 0 && !before.equals(&self.table) {
             return self.table.wrong("join", format!("{told}, and a word is written"));
@@ -160,7 +160,7 @@ impl Run<'_> {
     /// The loss of a member, if its withdrawal would be granted.
     fn some_loss(&mut self, n: u32) -> Result<()> {
         let before = self.table.clone();
-        let granted = self.table.call("leave", &[n], |c, t| (c.leave)(t, n)).number == 0;
+        let granted = self.table.call("leave", &[n], |c, t| (c.leave)(t, n))?.number == 0;
         self.table = before;
         if granted {
             self.table.accepted("fail", &[n], |c, t| (c.fail)(t, n))?;

@@ -171,13 +171,9 @@ impl Compare {
         Ok(outcome)
     }
 
-    /// A join; if 13 declines it, the steps of p up to the first that does not say
-    /// again, and the same join once more.
-    pub fn join_after_steps(&mut self, table: &Piece<u32>, j: u32, p: u32) -> Result<()> {
-        if self.join(table, j, p)?.answer.number != 13 {
-            return Ok(());
-        }
-        let pending = record(table.slice(), p).is_some_and(|by| by[PENDING] == 1);
+    /// The steps of p up to the first that does not say again, which may never come: what they
+    /// leave, and how often p said again.
+    pub fn steps_of(&mut self, table: &Piece<u32>, p: u32) -> Result<(Piece<u32>, usize)> {
         let mut t = table.clone();
         let mut agains = 0;
         // One more than the list has entries; those appended may be dead too.
@@ -189,6 +185,16 @@ impl Compare {
             }
             agains += 1;
         }
+        Ok((t, agains))
+    }
+
+    /// A join; if 13 declines it, the steps of p, and the same join once more.
+    pub fn join_after_steps(&mut self, table: &Piece<u32>, j: u32, p: u32) -> Result<()> {
+        if self.join(table, j, p)?.answer.number != 13 {
+            return Ok(());
+        }
+        let pending = record(table.slice(), p).is_some_and(|by| by[PENDING] == 1);
+        let (t, agains) = self.steps_of(table, p)?;
         let number = self.join(&t, j, p)?.answer.number;
         if !matches!(number, 0 | 4 | 5 | 13) {
             return Err(format!("DIFFERENCE in join, {number} after steps of {p}\n  {t:?}\n"));

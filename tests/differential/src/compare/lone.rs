@@ -1,7 +1,7 @@
 //! A table between guards that the library alone is called on. The reference makes
 //! no call; what must hold is read off the words that the library left.
 
-use super::{place, watched, Compare, Lent, Piece, Result};
+use super::{place, watched, Compare, Lent, Made, Piece, Result};
 use crate::calls::Calls;
 use crate::layout::{records, ID};
 use crate::random::Random;
@@ -53,17 +53,28 @@ impl Lone {
         Err(format!("DIFFERENCE in {name}, {what}\n  table {:?}\n", self.words()))
     }
 
+    /// A call, after which the step counts are held to their rule.
     pub fn call(
         &mut self,
         name: &str,
         arguments: &[u32],
         call: impl Fn(&Calls, &mut [u32]) -> Answer,
-    ) -> Answer {
+    ) -> Result<Answer> {
         if self.trace {
             eprintln!("{name} {arguments:?}\n  table {:?}", self.words());
         }
+        let before = self.words().to_vec();
         let (calls, slice) = (self.calls, self.lent.slice());
-        watched(place(name), || call(calls, slice))
+        let given = watched(place(name), || call(calls, slice));
+        let first = arguments.first().copied().unwrap_or(0);
+        let made = Made { name, first, number: given.number, values: given.values };
+        match made.rule(&before, self.words()) {
+            Ok(()) => Ok(given),
+            Err(what) => {
+                let what = format!("{arguments:?}, {what}\n  before {before:?}");
+                self.wrong(name, what)
+            }
+        }
     }
 
     /// A call that must be accepted.
@@ -73,7 +84,7 @@ impl Lone {
         arguments: &[u32],
         call: impl Fn(&Calls, &mut [u32]) -> Answer,
     ) -> Result<[u32; 4]> {
-        match self.call(name, arguments, call) {
+        match self.call(name, arguments, call)? {
             Answer { number: 0, values, .. } => Ok(values),
             given => self.wrong(name, format!("{arguments:?} is given {given:?}")),
         }

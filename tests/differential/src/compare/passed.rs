@@ -61,7 +61,7 @@ fn eight(at: u32) -> Answer {
 
 /// A find that must give this answer.
 fn find(table: &mut Lone, n: u32, k: u32, due: Answer) -> Result<()> {
-    let given = table.call("lookup", &[n, k], |c, t| (c.lookup)(t, n, k));
+    let given = table.call("lookup", &[n, k], |c, t| (c.lookup)(t, n, k))?;
     if given != due {
         return table.wrong("lookup", format!("{k} from {n} is given {given:?}, not {due:?}"));
     }
@@ -169,7 +169,7 @@ impl Passed {
         let some = random.word();
         for limit in [0, 1, random.pick(&[2, 3, some, u32::MAX])] {
             let mut table = start.clone();
-            let given = table.call("settle", &[limit], |c, t| (c.settle)(t, limit));
+            let given = table.call("settle", &[limit], |c, t| (c.settle)(t, limit))?;
             let [ran, verdict, passed, rest] = given.values;
             if (given.number, given.count, passed, rest) != (0, 3, due, 0) {
                 let what = format!("{limit} is given {given:?}, and {due} are passed over");
@@ -177,7 +177,7 @@ impl Passed {
             }
             // A round leaves no dead entry in front.
             let left = if ran > 0 { 0 } else { due };
-            let again = table.call("settle", &[0], |c, t| (c.settle)(t, 0));
+            let again = table.call("settle", &[0], |c, t| (c.settle)(t, 0))?;
             if (again.count, again.values) != (3, [0, verdict, left, 0]) {
                 let what = format!("0 after {limit} is given {again:?}, not {left}");
                 return start.wrong("settle", what);
@@ -210,7 +210,7 @@ impl Passed {
     /// All that must hold of a table.
     fn table(&mut self, random: &mut Random, mut table: Lone) -> Result<()> {
         let before = table.clone();
-        let audit = table.call("audit", &[], |c, t| (c.audit)(t));
+        let audit = table.call("audit", &[], |c, t| (c.audit)(t))?;
         let name = make::names(random, table.words(), 1)[0];
         if audit.number != 0 {
             find(&mut table, name, name, Answer { number: 1, values: [0; 4], count: 0 })?;
@@ -279,6 +279,9 @@ impl Compare {
             };
             if number == 4 {
                 make::cut_off(random, &mut raw);
+            }
+            if random.one_in(40) {
+                raw.steps = make::header_steps(random);
             }
             let piece = make::with_room(random, &raw.words(), raw.width());
             let words = match random.one_in(40) {

@@ -1,17 +1,17 @@
 //! Rounds and settle: one call on both sides, and what a run must meet of them, read off
-//! the words before and after.
+//! the words.
 
 use super::find::first_live;
 use super::ideal::same_order;
 use super::join::is_member;
 use super::shapes::Shapes;
 use super::{nothing, Compare, Outcome, Piece, Result};
-use crate::layout::{list, records, CANDIDATE, COUNT, ID, LIST, PENDING, R, STEPS};
+use crate::layout::{list, records, CANDIDATE, COUNT, ID, LIST, PENDING, R};
 use crate::reference::{self, Answer};
 
 /// Each call counts for those that hold of its table, its limit and its answer. What
 /// stands with 14 alone is all that the table lacks.
-const SHAPES: [&str; 31] = [
+const SHAPES: [&str; 29] = [
     "1 with limit 0",
     "14 with limit 0",
     "14 with no members",
@@ -25,8 +25,6 @@ const SHAPES: [&str; 31] = [
     "a round leaves verdict 1",
     "a round brings verdict 2",
     "a round of 256 members",
-    "a round takes the step count to 4294967295",
-    "a round leaves the step count at 4294967295",
     "settle of an ideal table",
     "settle of an ideal table with a pending step",
     "limit 0 with verdict 1",
@@ -132,7 +130,7 @@ impl Settles {
     }
 
     /// Counts a round, which has no limit, or a settle.
-    fn count(&mut self, table: &[u32], limit: Option<u32>, answer: &Answer, after: &[u32]) {
+    fn count(&mut self, table: &[u32], limit: Option<u32>, answer: &Answer) {
         let number = answer.number;
         let none = limit == Some(0);
         if number == 1 {
@@ -181,8 +179,6 @@ impl Settles {
             round && !ideal && verdict == 1,
             round && !ideal && verdict == 2,
             round && full,
-            round && table[STEPS] < u32::MAX && after[STEPS] == u32::MAX,
-            round && table[STEPS] == u32::MAX && after[STEPS] == u32::MAX,
             settle && ideal && given > 0,
             settle && ideal && given > 0 && pending,
             settle && none && verdict == 1,
@@ -206,7 +202,7 @@ impl Settles {
 impl Compare {
     pub fn round(&mut self, table: &Piece<u32>) -> Result<Outcome<u32, u32>> {
         let outcome = self.on_table("round", &[], table, &nothing(), |c, t, _| (c.round)(t))?;
-        self.settles.count(table.slice(), None, &outcome.answer, &outcome.first);
+        self.settles.count(table.slice(), None, &outcome.answer);
         Ok(outcome)
     }
 
@@ -214,7 +210,7 @@ impl Compare {
         let outcome = self.on_table("settle", &[limit as u64], table, &nothing(), |c, t, _| {
             (c.settle)(t, limit)
         })?;
-        self.settles.count(table.slice(), Some(limit), &outcome.answer, &outcome.first);
+        self.settles.count(table.slice(), Some(limit), &outcome.answer);
         if outcome.answer.number == 0 {
             self.settles.count_passed(table.slice(), limit, outcome.answer.values);
         }

@@ -6,7 +6,7 @@
 //!   its third number is what all members pass over before the first, as finds tell it.
 //! - The limit s - 1 brings verdict 2, in at most s - P + r rounds.
 //! - After s - P + r rounds the verdict is 2, nothing is pending, and a round more changes
-//!   the step count only, by one step a member.
+//!   the step counts only, by one step a member.
 //! - Where the audit is declined by 1 both are, where its verdict is 0 both are declined by
 //!   14; that writes nothing.
 
@@ -14,7 +14,9 @@ use super::join::is_member;
 use super::lone::Lone;
 use super::shapes::Shapes;
 use super::{passed, Compare, Result};
-use crate::layout::{record, records, CANDIDATE, COUNT, LIST, PENDING, PREDECESSOR, R, STEPS};
+use crate::layout::{
+    record, records, steps, steps_at, CANDIDATE, COUNT, LIST, PENDING, PREDECESSOR, R,
+};
 use crate::make;
 use crate::random::Random;
 use crate::reference::Answer;
@@ -138,7 +140,7 @@ impl Turns {
         let mut states = vec![(start.clone(), verdict(&mut table)?)];
         for number in 0..=enough {
             let before = table.clone();
-            let said = table.call("round", &[], |c, t| (c.round)(t));
+            let said = table.call("round", &[], |c, t| (c.round)(t))?;
             let after = verdict(&mut table)?;
             if (said.number, said.count, said.values) != (0, 1, [after, 0, 0, 0]) {
                 return before.wrong("round", format!("is given {said:?}, verdict {after}"));
@@ -155,13 +157,17 @@ impl Turns {
                 }
                 self.rounds += 1;
             }
-            let stops = before.words()[STEPS] < u32::MAX && table.words()[STEPS] == u32::MAX;
+            let [old, new] = [&before, &table].map(|t| records(t.words()).map(steps));
+            let stops = old.zip(new).any(|(old, new)| old < u32::MAX && new == u32::MAX);
             self.shapes.meet_each(&[(stops, "a step count that stops")]);
             if number == enough {
                 let mut due = before.words().to_vec();
-                due[STEPS] = due[STEPS].saturating_add(members.len() as u32);
+                for i in 0..members.len() {
+                    let count = &mut due[steps_at(start.words()[R] as usize, i)];
+                    *count = count.saturating_add(1);
+                }
                 if table.words() != due || records(&due).any(|m| m[PENDING] == 1) {
-                    let what = format!("round {} changes more than the count", enough + 1);
+                    let what = format!("round {} changes more than the counts", enough + 1);
                     return before.wrong("round", what);
                 }
             }
@@ -180,7 +186,7 @@ impl Turns {
         passed: u32,
     ) -> Result<u32> {
         let mut table = start.clone();
-        let said = table.call("settle", &[limit], |c, t| (c.settle)(t, limit));
+        let said = table.call("settle", &[limit], |c, t| (c.settle)(t, limit))?;
         let ideal = states.iter().position(|state| state.1 == 2).unwrap_or(states.len() - 1);
         let ran = ideal.min(limit as usize);
         let due = [ran as u32, states[ran].1, passed, 0];
@@ -205,7 +211,7 @@ impl Turns {
             return start.wrong("audit", format!("{audit:?}, and r is {r}"));
         }
         let mut settled = start.clone();
-        let said = settled.call("settle", &[s - 1], |c, t| (c.settle)(t, s - 1));
+        let said = settled.call("settle", &[s - 1], |c, t| (c.settle)(t, s - 1))?;
         let [ran, reached, ..] = said.values;
         if said.number != 0 || reached != 2 || ran > enough || (ran == 0) != (verdict == 2) {
             let what = format!("{} is given {said:?}, {enough} are enough", s - 1);
@@ -263,7 +269,7 @@ impl Compare {
     pub fn turns_of(&mut self, random: &mut Random, words: Vec<u32>) -> Result<()> {
         let mut table = Lone::new(self, random, words);
         let before = table.clone();
-        let audit = table.call("audit", &[], |c, t| (c.audit)(t));
+        let audit = table.call("audit", &[], |c, t| (c.audit)(t))?;
         let number = match audit {
             Answer { number: 0, values, .. } if values[3] > 0 => {
                 return self.turns.sound(random, table, values);
@@ -277,7 +283,7 @@ impl Compare {
             let given = table.call(name, &limits, |c, t| match limits.first() {
                 None => (c.round)(t),
                 Some(&limit) => (c.settle)(t, limit),
-            });
+            })?;
             let refused = (given.number, given.count, given.values) == (number, 0, [0; 4]);
             if !refused || !table.equals(&before) {
                 let what = format!("{limits:?} is given {given:?}, not {number}, or writes");
@@ -310,12 +316,13 @@ impl Compare {
         }
         // One word changed, or another table.
         let record = &mut raw.records[random.below(n)];
-        match random.below(6) {
+        match random.below(7) {
             0 => record.list[random.below(r)] = random.word(),
             1 => record.list.fill(record.id.wrapping_add(1)),
             2 => record.candidate = record.list[0],
             3 => raw.count -= 1,
             4 => raw = make::well_formed(random, None),
+            5 => raw.steps = make::header_steps(random),
             _ => raw = make::tiny(random).0,
         }
         let table = make::with_room(random, &raw.words(), raw.width());

@@ -113,7 +113,7 @@ impl Run<'_> {
                 let first = first_entry(self.table.words(), n).map_or(n, |first| first.0);
                 let way = first.wrapping_sub(n).wrapping_sub(1).max(1);
                 let j = n.wrapping_add(1 + random.word() % way);
-                self.table.call("join", &[j, n], |c, t| (c.join)(t, j, n));
+                self.table.call("join", &[j, n], |c, t| (c.join)(t, j, n))?;
             }
             0..=6 => {
                 self.table.accepted("stabilize", &[n], |c, t| (c.stabilize)(t, n))?;
@@ -123,7 +123,7 @@ impl Run<'_> {
                 self.table.accepted("rectify", &[n, q], |c, t| (c.rectify)(t, n, q))?;
             }
             _ => {
-                self.table.call("leave", &[n], |c, t| (c.leave)(t, n));
+                self.table.call("leave", &[n], |c, t| (c.leave)(t, n))?;
             }
         }
         Ok(())
@@ -203,7 +203,7 @@ impl Run<'_> {
         for &x in order {
             let at = ring.iter().position(|&id| id == x).expect("a member");
             let before = self.table.clone();
-            let given = self.table.call("leave", &[x], |c, t| (c.leave)(t, x));
+            let given = self.table.call("leave", &[x], |c, t| (c.leave)(t, x))?;
             let told =
                 format!("{x} after {granted} of {m}, {promised} promised, is given {given:?}");
             if granted < promised && given.number != 0 {

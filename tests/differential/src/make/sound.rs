@@ -1,6 +1,6 @@
 //! Sound tables, ideal ones and ones far from it.
 
-use super::{step_count, Space};
+use super::{count_to_the_end, counted, Space};
 use crate::layout::{Raw, Record};
 use crate::random::Random;
 
@@ -37,7 +37,7 @@ impl Ring {
         let n = self.ids.len();
         let list = |i: usize| (1..=r).map(|k| self.id(i + k)).collect();
         let record = |i: usize| Record::new(self.id(i), self.id(i + n - 1), None, list(i));
-        Raw::new(r, random.word(), (0..n).map(record).collect())
+        counted(random, r, (0..n).map(record).collect())
     }
 
     /// Some members are made pending, with candidates between them and the next one.
@@ -152,7 +152,7 @@ fn after_losses(random: &mut Random, r: usize, n: usize, most: usize) -> Raw {
     places.sort();
     let list = |i: usize| (1..=r).map(|k| ids[(i + k) % all]).collect();
     let record = |&i: &usize| Record::new(ids[i], ids[(i + all - 1) % all], None, list(i));
-    Raw::new(r, 0, places.iter().map(record).collect())
+    counted(random, r, places.iter().map(record).collect())
 }
 
 /// A table on which members - 1 rounds are needed.
@@ -192,7 +192,6 @@ fn stale_by(random: &mut Random, r: usize, n: usize, styles: &[Option<usize>]) -
     let all = Space::any(random, 8 * n).rising(random, 8 * n);
     let first = random.below(8);
     let slot = |at: usize| all[(first + at) % (8 * n)];
-    let steps = step_count(random);
     let mut records = Vec::with_capacity(n);
     for (i, style) in styles.iter().enumerate() {
         let slots = match style {
@@ -203,7 +202,7 @@ fn stale_by(random: &mut Random, r: usize, n: usize, styles: &[Option<usize>]) -
         let list = slots.iter().map(|&at| slot(8 * i + at)).collect();
         records.push(Record::new(slot(8 * i), predecessor, None, list));
     }
-    let mut raw = Raw::new(r, steps, records);
+    let mut raw = counted(random, r, records);
     if random.one_in(3) {
         await_some(random, &mut raw);
     }
@@ -292,9 +291,8 @@ pub fn sound(random: &mut Random, r: usize, n: usize) -> Raw {
     if random.one_in(4) {
         await_some(random, &mut raw);
     }
-    raw.steps = step_count(random);
-    if random.one_in(6) {
-        raw.steps = u32::MAX - random.below(3 * n) as u32;
+    if random.one_in(4) {
+        count_to_the_end(random, &mut raw, 3 * n);
     }
     raw
 }

@@ -10,15 +10,12 @@ pub fn new(table: &mut [u32], r: u32, ids: &[u32]) -> Answer {
     }
     let (r, n) = (r as usize, ids.len());
     let members = (0..n)
-        .map(|i| Member {
-            identifier: ids[i],
-            predecessor: ids[(i + n - 1) % n],
-            pending: false,
-            candidate: 0,
-            list: (1..=r).map(|ahead| ids[(i + ahead) % n]).collect(),
+        .map(|i| {
+            let list = (1..=r).map(|ahead| ids[(i + ahead) % n]).collect();
+            Member::starting(ids[i], ids[(i + n - 1) % n], list)
         })
         .collect();
-    let made = Table { r, steps: 0, members };
+    let made = Table { r, members };
     if table.len() < made.length() {
         return decline(10);
     }
@@ -47,10 +44,7 @@ pub fn join(table: &mut [u32], j: u32, p: u32) -> Answer {
         return decline(5);
     }
     let place = t.members.iter().filter(|m| m.identifier < j).count();
-    t.members.insert(
-        place,
-        Member { identifier: j, predecessor: p, pending: false, candidate: 0, list: by.list },
-    );
+    t.members.insert(place, Member::starting(j, p, by.list));
     t.put(table);
     accept(&[t.count()])
 }
@@ -252,61 +246,6 @@ pub fn take_over(own: u32, h: u32, c: u32, h_list: &[u32], c_list: &[u32]) -> An
     accept(&[from_c as u32, part.len() as u32, (part.len() >> 32) as u32])
 }
 
-pub fn image_write(table: &[u32], image: &mut [u8]) -> Answer {
-    let Some(t) = Table::decode(table) else {
-        return decline(1);
-    };
-    let written = t.image();
-    if image.len() < written.len() {
-        return decline(10);
-    }
-    image[..written.len()].copy_from_slice(&written);
-    accept(&[written.len() as u32])
-}
-
-pub fn image_read(table: &mut [u32], image: &[u8]) -> Answer {
-    let Some(t) = Table::of_image(image) else {
-        return decline(9);
-    };
-    if table.len() < t.length() {
-        return decline(10);
-    }
-    t.put(table);
-    accept(&[t.count()])
-}
-
-/// The field due at a position as tag and length, which follows from the tag 1
-/// field alone.
-fn due(image: &[u8], position: usize) -> Option<(u8, usize)> {
-    if position == 0 {
-        return Some((1, 7));
-    }
-    let head = field_with(image, 0, 1, 7)?;
-    let r = image[head.contents] as usize;
-    let count = two_bytes(&image[head.contents + 1..]) as usize;
-    let record = 13 + 4 * r;
-    let end = head.next + count * (3 + record);
-    if position == end {
-        return Some((3, 0));
-    }
-    if position >= head.next && position < end && (position - head.next) % (3 + record) == 0 {
-        return Some((2, record));
-    }
-    None
-}
-
-pub fn image_field(image: &[u8], position: usize) -> Answer {
-    let Some((tag, length)) = due(image, position) else {
-        return decline(9);
-    };
-    match field_with(image, position, tag, length) {
-        None => decline(9),
-        Some(field) => {
-            accept(&[tag as u32, field.contents as u32, length as u32, field.next as u32])
-        }
-    }
-}
-
 #[cfg(test)]
 mod joins {
     use super::*;
@@ -320,7 +259,7 @@ mod joins {
 
     #[test]
     fn behind_a_dead_neighbour() {
-        let mut table = [9; 33];
+        let mut table = [9; 38];
         new(&mut table, 2, &[10, 20, 30, 40, 50]);
         fail(&mut table, 20);
         let declined = |number| (decline(number), true);
@@ -331,24 +270,46 @@ mod joins {
         assert_eq!(tried(&table, 15, 20), declined(3));
         assert_eq!(tried(&table, 25, 10), declined(4));
         // 5 comes after it: one word fewer than a record takes.
-        assert_eq!(tried(&table[..32], 15, 10), declined(13));
-        assert_eq!(tried(&table[..32], 35, 30), declined(5));
-        assert_eq!(tried(&table[..26], 15, 10), declined(1));
+        assert_eq!(tried(&table[..37], 15, 10), declined(13));
+        assert_eq!(tried(&table[..37], 35, 30), declined(5));
+        assert_eq!(tried(&table[..30], 15, 10), declined(1));
         // Only 10 stands before the dead one.
         assert_eq!(tried(&table, 35, 30), (accept(&[5]), false));
         // One step clears it.
         assert_eq!(stabilize(&mut table, 10), accept(&[0]));
         assert_eq!(join(&mut table, 15, 10), accept(&[5]));
-        assert_eq!(table[9..15], [15, 10, 0, 0, 30, 31]);
+        assert_eq!(table[3..10], [10, 50, 0, 0, 30, 31, 1]);
+        assert_eq!(table[10..17], [15, 10, 0, 0, 30, 31, 0]);
         // The new member clears no dead entry: it looks at the lost 20, and is done.
         assert_eq!(stabilize(&mut table, 15), accept(&[1, 20]));
         assert_eq!(stabilize(&mut table, 15), accept(&[2, 30]));
     }
 
     #[test]
+    fn joined_again() {
+        let mut table = [9; 31];
+        new(&mut table, 2, &[10, 20, 30]);
+        assert_eq!([table[9], table[16], table[23]], [0; 3]);
+        (table[9], table[16], table[23]) = (5, u32::MAX, 7);
+        // Those above move with their counts, the new one starts at 0, each time.
+        let joined = [25, 20, 0, 0, 30, 10, 0];
+        for _ in 0..2 {
+            assert_eq!(join(&mut table, 25, 20), accept(&[4]));
+            assert_eq!(table[..3], [2, 4, 0]);
+            assert_eq!(table[17..24], joined);
+            assert_eq!([table[9], table[16], table[30]], [5, u32::MAX, 7]);
+            assert_eq!(stabilize(&mut table, 25), accept(&[2, 30]));
+            assert_eq!(table[23], 1);
+            assert_eq!(fail(&mut table, 25), accept(&[3]));
+            assert_eq!([table[9], table[16], table[23]], [5, u32::MAX, 7]);
+            assert_eq!(table[24..], [0; 7]);
+        }
+    }
+
+    #[test]
     fn full_table() {
         let ids: Vec<u32> = (0..256).map(|i| 4 * i).collect();
-        let mut table = vec![0; 3 + 257 * 12];
+        let mut table = vec![0; 3 + 257 * 13];
         new(&mut table, 8, &ids);
         assert_eq!(tried(&table, 1, 0), (decline(5), true));
         table[7] = 2;
@@ -357,7 +318,7 @@ mod joins {
         assert_eq!(tried(&table, 5, 4), (decline(5), true));
         // The last member's first entry is the lowest, round the end.
         assert_eq!(tried(&table, 1021, 1020), (decline(5), true));
-        table[3 + 255 * 12 + 4] = u32::MAX;
+        table[3 + 255 * 13 + 4] = u32::MAX;
         assert_eq!(tried(&table, 1021, 1020), (decline(13), true));
     }
 }
@@ -368,7 +329,7 @@ mod finds {
 
     #[test]
     fn entries_passed() {
-        let mut table = [0; 66];
+        let mut table = [0; 75];
         new(&mut table, 3, &[10, 20, 30, 40, 50, 60, 70, 80, 90]);
         assert_eq!(lookup(&table, 10, 10), accept(&[10, 90, 8, 0]));
         for gone in [30, 60, 70] {
@@ -387,9 +348,11 @@ mod finds {
         fail(&mut table, 80);
         assert_eq!(lookup(&table, 20, 55), answer(8, &[50]));
         assert_eq!(lookup(&table, 20, 45), accept(&[50, 40, 1, 1]));
-        // One dead entry twice in a list is passed over twice.
-        let lone = [3, 1, 0, 7, 7, 0, 0, 5, 5, 7];
+        // One dead entry twice in a list is passed over twice; a count is no entry.
+        let mut lone = [3, 1, 0, 7, 7, 0, 0, 5, 5, 7, 7];
         assert_eq!(lookup(&lone, 7, 5), accept(&[7, 7, 0, 2]));
+        lone[9] = 5;
+        assert_eq!(lookup(&lone, 7, 5), answer(8, &[7]));
     }
 }
 
@@ -406,12 +369,12 @@ mod verdicts {
         // The highest member's last entry, round the end, dead or another member.
         for entry in [15, 25] {
             let mut late = table;
-            late[32] = entry;
+            late[36] = entry;
             assert_eq!(audit(&late).values[3], 1);
         }
         // r or fewer members repeat, and are never sound.
-        assert!(Table::decode(&[3, 1, 0, 7, 7, 0, 0, 7, 7, 7]).unwrap().is_ideal());
-        let two = [3, 2, 0, 5, 7, 0, 0, 7, 5, 7, 7, 5, 0, 0, 5, 7, 5];
+        assert!(Table::decode(&[3, 1, 0, 7, 7, 0, 0, 7, 7, 7, 1]).unwrap().is_ideal());
+        let two = [3, 2, 0, 5, 7, 0, 0, 7, 5, 7, 1, 7, 5, 0, 0, 5, 7, 5, 9];
         assert!(Table::decode(&two).unwrap().is_ideal());
         assert_eq!(audit(&two), accept(&[2, 2, 2, 0]));
         assert!(Table::decode(&[3, 0, 0]).unwrap().is_ideal());
@@ -421,7 +384,7 @@ mod verdicts {
     #[test]
     fn withdrawals() {
         let ids = [10, 20, 30, 40, 50, 60];
-        let mut table = [0; 45];
+        let mut table = [0; 51];
         new(&mut table, 2, &ids);
         assert_eq!(leave(&mut table, 20), accept(&[5]));
         assert_eq!(leave(&mut table, 30), decline(6));

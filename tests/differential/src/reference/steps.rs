@@ -37,10 +37,8 @@ impl Table {
             member.drop_head();
             reply = Step::Again;
         }
+        member.count_step();
         self.members[place] = member;
-        if self.steps < u32::MAX {
-            self.steps += 1;
-        }
         reply
     }
 
@@ -141,8 +139,8 @@ pub(super) mod settled {
     use super::*;
 
     /// Line 7 of document 01's session: the second entry of 10 is still 30.
-    pub fn session() -> [u32; 33] {
-        let mut table = [0; 33];
+    pub fn session() -> [u32; 38] {
+        let mut table = [0; 38];
         new(&mut table, 2, &[10, 20, 30, 40]);
         join(&mut table, 25, 20);
         stabilize(&mut table, 25);
@@ -150,6 +148,11 @@ pub(super) mod settled {
         stabilize(&mut table, 20);
         stabilize(&mut table, 20);
         table
+    }
+
+    /// The step counts of a table of r = 2.
+    fn counts(table: &[u32]) -> Vec<u32> {
+        table[3..].chunks_exact(7).take(table[1] as usize).map(|record| record[6]).collect()
     }
 
     #[test]
@@ -161,40 +164,43 @@ pub(super) mod settled {
             assert_eq!(table == start, limit == 0);
             assert_eq!(settle(&mut table, 0), accept(&[0, told[1], 0]));
         }
-        // One step a member, and the step count stops.
+        // One step a member, each counted by its own, and a count stops.
+        assert_eq!(counts(&start), [0, 2, 1, 0, 0]);
         let mut table = start;
         assert_eq!(round(&mut table), accept(&[2]));
-        assert_eq!(table[2], start[2] + 5);
-        table[2] = u32::MAX - 1;
+        assert_eq!(counts(&table), [1, 3, 2, 1, 1]);
+        (table[9], table[16]) = (u32::MAX - 1, u32::MAX);
         assert_eq!(round(&mut table), accept(&[2]));
-        assert_eq!(table[2], u32::MAX);
+        assert_eq!(counts(&table), [u32::MAX, u32::MAX, 3, 2, 2]);
+        assert_eq!(table[..3], [2, 5, 0]);
     }
 
     #[test]
     fn pending_steps() {
         // 10 awaits a candidate that was lost, and stands behind a dead first entry: its
         // notice is lost, then it clears the entry.
-        let mut table = [0; 27];
+        let mut table = [0; 31];
         new(&mut table, 2, &[10, 20, 30, 40]);
         (table[5], table[6]) = (1, 15);
+        (table[9], table[16], table[23], table[30]) = (100, 200, 300, 400);
         assert_eq!(settle(&mut table, 9), accept(&[0, 2, 0]));
         assert_eq!(table[5], 1);
         fail(&mut table, 20);
-        let before = table;
+        assert_eq!(counts(&table), [100, 300, 400]);
+        assert_eq!(table[24..], [0; 7]);
         assert_eq!(round(&mut table), accept(&[2]));
         // 10: done, again, look at 20, done; 30: done; 40: done.
-        assert_eq!(table[2], before[2] + 6);
-        assert_eq!(table[3..9], [10, 40, 0, 0, 30, 40]);
-        assert_eq!(table[9..15], [30, 10, 0, 0, 40, 10]);
+        assert_eq!(table[3..10], [10, 40, 0, 0, 30, 40, 104]);
+        assert_eq!(table[10..17], [30, 10, 0, 0, 40, 10, 301]);
         // The highest takes the list of the lowest, which had its turn before.
-        assert_eq!(table[15..21], [40, 30, 0, 0, 10, 30]);
+        assert_eq!(table[17..24], [40, 30, 0, 0, 10, 30, 401]);
         assert_eq!(settle(&mut table, 9), accept(&[0, 2, 0]));
     }
 
     #[test]
     fn as_it_began() {
         // 20 passes one entry over, 50 two, as they are before the first round.
-        let mut start = [0; 66];
+        let mut start = [0; 75];
         new(&mut start, 3, &[10, 20, 30, 40, 50, 60, 70, 80, 90]);
         for gone in [30, 60, 70] {
             fail(&mut start, gone);
@@ -210,9 +216,17 @@ pub(super) mod settled {
     #[test]
     fn refusals() {
         let mut table = session();
-        assert_eq!(round(&mut table[..32]), decline(1));
-        assert_eq!(settle(&mut table[..32], 0), decline(1));
+        assert_eq!(round(&mut table[..37]), decline(1));
+        assert_eq!(settle(&mut table[..37], 0), decline(1));
         assert_eq!(table, session());
+        for steps in [1, u32::MAX] {
+            let mut counted = session();
+            counted[2] = steps;
+            let before = counted;
+            assert_eq!(round(&mut counted), decline(1));
+            assert_eq!(settle(&mut counted, 0), decline(1));
+            assert_eq!(counted, before);
+        }
         table[1] = 2;
         let few = table;
         assert_eq!(round(&mut table), decline(14));
@@ -224,7 +238,7 @@ pub(super) mod settled {
     fn as_many_as_members_but_one() {
         // The others have joined by the highest of r + 1 members.
         for r in 1..=8 {
-            let mut table = vec![0; 3 + 20 * (r as usize + 4)];
+            let mut table = vec![0; 3 + 20 * (r as usize + 5)];
             let ids: Vec<u32> = (0..=r).collect();
             new(&mut table, r, &ids);
             for j in r + 1..20 {

@@ -109,7 +109,7 @@ fn few_members(compare: &mut Compare, random: &mut Random, r: usize) -> Result {
         raw.records[i].list[k] = random.pick(&[member, ring.gaps[i]]);
         judge(compare, random, &raw)?;
     }
-    let none = Raw::new(r, random.word(), Vec::new());
+    let none = Raw::new(r, Vec::new());
     judge(compare, random, &none)
 }
 

@@ -20,7 +20,7 @@ pub fn read_image(compare: &mut Compare, random: &mut Random, image: &Piece<u8>)
 
 /// The field reader at the positions of a small image, at the borders and some
 /// others of a large one, and far outside.
-fn read_fields(compare: &mut Compare, random: &mut Random, image: &Piece<u8>) -> Result {
+pub fn read_fields(compare: &mut Compare, random: &mut Random, image: &Piece<u8>) -> Result {
     let len = image.len;
     let mut positions: Vec<usize> = vec![
         usize::MAX,

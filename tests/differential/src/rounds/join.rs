@@ -166,7 +166,7 @@ fn of_any_shape(random: &mut Random, n: usize, r: usize) -> Raw {
         let predecessor = if random.one_in(2) { dead(random, &ids) } else { random.pick(&ids) };
         records.push(Record::new(ids[i], predecessor, pending.then_some(candidate), list));
     }
-    Raw::new(r, random.word(), records)
+    make::counted(random, r, records)
 }
 
 /// Joins before an entry that is the word right after the last record, as one
@@ -214,7 +214,7 @@ pub fn join(compare: &mut Compare, random: &mut Random) -> Result {
         before_the_rest(compare, random, &raw)?;
         compare.alone(random)?;
     }
-    if random.one_in(4) {
+    if random.one_in(3) {
         full_tables(compare, random)?;
     }
     Ok(())

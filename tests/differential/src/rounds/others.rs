@@ -63,8 +63,8 @@ pub fn alike(compare: &mut Compare, random: &mut Random) -> Result {
         let mut other = raw.clone();
         let n = other.records.len();
         let i = random.below(n.max(1));
-        match random.below(9) {
-            0 => other.steps = other.steps.wrapping_add(1),
+        match random.below(10) {
+            0 if n > 0 => other.records[i].steps = random.word(),
             1 => {
                 other.r = random.range(1, 8) as u32;
                 for m in &mut other.records {
@@ -83,6 +83,7 @@ pub fn alike(compare: &mut Compare, random: &mut Random) -> Result {
                 other.records.remove(i);
                 other.count -= 1;
             }
+            8 => other.steps = make::header_steps(random),
             _ => {}
         }
         let a = make::with_room(random, &raw.words(), 9);

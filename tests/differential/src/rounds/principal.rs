@@ -2,7 +2,7 @@
 //! that skips a chosen member, the very first and the very last pair too.
 
 use super::*;
-use crate::layout::{Record, HEADER, ID};
+use crate::layout::{Record, ID};
 use crate::reference::between;
 
 /// What a list entry may be: members, their neighbours, and anything.
@@ -58,7 +58,7 @@ fn skipped_at(random: &mut Random, r: usize, ids: &[u32], x: u32, at: usize) -> 
         let candidate = random.one_in(6).then(|| any_entry(random, ids));
         records.push(Record::new(ids[i], ids[(i + n - 1) % n], candidate, list));
     }
-    Raw::new(r, random.word(), records)
+    make::counted(random, r, records)
 }
 
 /// The member asked for: the ends of the table, those near them, or another.
@@ -143,7 +143,7 @@ pub fn principal(compare: &mut Compare, random: &mut Random) -> Result {
     // No members, whatever words follow.
     let words = make::junk(random, 40);
     let mut none = Piece::cut(&words, random.range(HEADER, 40));
-    let header = Raw::new(random.range(1, 8), random.word(), Vec::new()).words();
+    let header = Raw::new(random.range(1, 8), Vec::new()).words();
     none.all[..HEADER].copy_from_slice(&header);
     for n in others(random, &none) {
         compare.principal(&none, n)?;

@@ -130,7 +130,8 @@ pub fn settling(compare: &mut Compare, random: &mut Random) -> Result {
 /// 256 members, sound and not.
 pub fn full_settling(compare: &mut Compare, random: &mut Random) -> Result {
     let r = random.pick(&[1, 2, 3, 8]);
-    let raw = make::sound(random, r, 256);
+    let mut raw = make::sound(random, r, 256);
+    make::count_apart(random, &mut raw);
     let t = make::with_room(random, &raw.words(), raw.width());
     calls(compare, random, &t, 2)?;
     let other = changed(random, &raw);

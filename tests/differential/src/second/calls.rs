@@ -7,7 +7,7 @@ pub fn new(table: &mut [u32], r: u32, ids: &[u32]) -> Answer {
     let least = if planted(Fault::NewFew) { r as u64 } else { r as u64 + 1 };
     let bad =
         r == 0 || r > 8 || n > 256 || (n as u64) < least || (1..n).any(|i| ids[i - 1] >= ids[i]);
-    let short = (n as u64 * (r as u64 + 4)) + 3 > table.len() as u64;
+    let short = (n as u64 * (r as u64 + 5)) + 3 > table.len() as u64;
     if bad && !(planted(Fault::NewTen) && short) {
         return no(11);
     }
@@ -19,7 +19,9 @@ pub fn new(table: &mut [u32], r: u32, ids: &[u32]) -> Answer {
     }
     table[0] = r;
     table[1] = n as u32;
-    table[2] = 0;
+    if !planted(Fault::NewHeader) {
+        table[2] = 0;
+    }
     for i in 0..n {
         let o = offset(table, i);
         table[o] = ids[i];
@@ -31,6 +33,9 @@ pub fn new(table: &mut [u32], r: u32, ids: &[u32]) -> Answer {
             k = if k + 1 == n { 0 } else { k + 1 };
             table[o + 4 + e] = ids[k];
         }
+        if !planted(Fault::NewCountLeft) {
+            table[o + 4 + r as usize] = 0;
+        }
     }
     yes([n as u32])
 }
@@ -39,17 +44,19 @@ pub fn new(table: &mut [u32], r: u32, ids: &[u32]) -> Answer {
 fn take(table: &mut [u32], to: usize, from: usize) {
     let h = id(table, from);
     let (o, source) = (offset(table, to) + 4, offset(table, from) + 4);
-    let length = width(table) - 4;
+    let length = span(table);
     if planted(Fault::OwnHead) && from == to {
         table[o..o + length].fill(h);
         return;
     }
+    let last = table[source + length - 1];
     table.copy_within(source..source + length - 1, o + 1);
     table[o] = h;
+    counts::taken(table, from, to, last);
 }
 
 pub fn stabilize(table: &mut [u32], n: u32) -> Answer {
-    if !formed(table) {
+    if !formed(table, Fault::HeaderStabilize) {
         return no(1);
     }
     match find(table, n) {
@@ -62,7 +69,7 @@ pub fn stabilize(table: &mut [u32], n: u32) -> Answer {
 pub(super) fn step_at(table: &mut [u32], i: usize) -> Answer {
     let o = offset(table, i);
     let n = table[o];
-    let (first, last) = (o + 4, o + width(table) - 1);
+    let (first, last) = (o + 4, o + 3 + span(table));
     let h = table[first];
     let mut head = find(table, h);
     if planted(Fault::AgainLive) && head == Some(size(table) - 1) {
@@ -106,23 +113,19 @@ pub(super) fn step_at(table: &mut [u32], i: usize) -> Answer {
             old.saturating_add(1)
         } else if planted(Fault::HeadAppended) {
             h
+        } else if planted(Fault::CountDropped) {
+            table[last + 1]
         } else {
             old.wrapping_add(1)
         };
         answer = yes([0]);
     }
-    if planted(Fault::StepWraps) {
-        table[2] = table[2].wrapping_add(1);
-    } else if !planted(Fault::StepNotCounted)
-        && !(planted(Fault::AgainNotCounted) && answer.values[0] == 0)
-    {
-        table[2] = table[2].saturating_add(1);
-    }
+    counts::step(table, i, answer.values);
     answer
 }
 
 pub fn rectify(table: &mut [u32], n: u32, q: u32) -> Answer {
-    if !formed(table) {
+    if !formed(table, Fault::HeaderRectify) {
         return no(1);
     }
     match find(table, n) {
@@ -138,6 +141,9 @@ pub(super) fn notice_at(table: &mut [u32], i: usize, q: u32) -> Answer {
     let dead = find(table, old).is_none() && !planted(Fault::RectifyAlive);
     if dead || between(old, q, n) {
         table[o] = q;
+        if planted(Fault::RectifyCounts) {
+            counts::raise(table, i);
+        }
         return yes([(old != q || !planted(Fault::RectifySame)) as u32]);
     }
     yes([planted(Fault::RectifyNew) as u32])
@@ -145,14 +151,17 @@ pub(super) fn notice_at(table: &mut [u32], i: usize, q: u32) -> Answer {
 
 fn remove(table: &mut [u32], i: usize) -> Answer {
     let (o, w, to) = (offset(table, i), width(table), end(table));
+    let (n, before) = (table[o], counts::all(table));
     table.copy_within(o + w..to, o);
     if !planted(Fault::FreedNotZeroed) {
-        table[to - w..to].fill(0);
+        table[to - w..to - planted(Fault::FreedOneShort) as usize].fill(0);
     }
     if planted(Fault::FreedOneTooMany) && to < table.len() {
         table[to] = 0;
     }
     table[1] -= 1;
+    counts::moved_down(table, i, &before);
+    counts::lost(table, n, before[i]);
     if planted(Fault::PastSlice) {
         unsafe { table.as_mut_ptr().add(table.len()).write_volatile(0) };
     }
@@ -160,7 +169,7 @@ fn remove(table: &mut [u32], i: usize) -> Answer {
 }
 
 pub fn fail(table: &mut [u32], n: u32) -> Answer {
-    if !formed(table) {
+    if !formed(table, Fault::HeaderFail) {
         return no(1);
     }
     match find(table, n) {
@@ -170,7 +179,7 @@ pub fn fail(table: &mut [u32], n: u32) -> Answer {
 }
 
 pub fn leave(table: &mut [u32], n: u32) -> Answer {
-    if !formed(table) {
+    if !formed(table, Fault::HeaderLeave) {
         return no(1);
     }
     let Some(i) = find(table, n) else {
@@ -180,7 +189,7 @@ pub fn leave(table: &mut [u32], n: u32) -> Answer {
     let left = |e: &u32| (planted(Fault::SixBefore) || *e != n) && find(table, *e).is_some();
     let least = if planted(Fault::SixSoon) { 2 } else { 1 };
     let dead = (0..size(table)).any(|m| {
-        let asked = if planted(Fault::SixFirst) { 1 } else { width(table) - 4 };
+        let asked = if planted(Fault::SixFirst) { 1 } else { span(table) };
         (m != i || planted(Fault::SixOwn))
             && list(table, m)[..asked].iter().filter(|&e| left(e)).count() < least
     });
@@ -212,7 +221,7 @@ pub fn leave(table: &mut [u32], n: u32) -> Answer {
 }
 
 pub fn lookup(table: &[u32], n: u32, k: u32) -> Answer {
-    if !formed(table) {
+    if !formed(table, Fault::HeaderLookup) {
         return no(1);
     }
     let Some(start) = find(table, n) else {
@@ -250,17 +259,20 @@ pub(super) fn one_more(table: &[u32]) -> &[u32] {
 }
 
 pub fn audit(table: &[u32]) -> Answer {
-    if planted(Fault::PastSliceRead) && formed(one_more(table)) {
+    if planted(Fault::PastSliceRead) && formed(one_more(table), Fault::HeaderAudit) {
         return report(one_more(table));
     }
-    if !formed(table) {
+    if let Some(older) = counts::of_older(table) {
+        return report(&older);
+    }
+    if !formed(table, Fault::HeaderAudit) {
         return no(1);
     }
     report(table)
 }
 
 pub fn findings(table: &[u32], findings: &mut [Finding]) -> Answer {
-    if !formed(table) {
+    if !formed(table, Fault::HeaderFindings) {
         return no(1);
     }
     let n = size(table);
@@ -300,15 +312,16 @@ pub fn findings(table: &[u32], findings: &mut [Finding]) -> Answer {
 }
 
 pub fn alike(a: &[u32], b: &[u32]) -> Answer {
-    if !formed(a) || (!formed(b) && !planted(Fault::AlikeSecond)) {
+    let second = formed(b, Fault::HeaderAlikeSecond);
+    if !formed(a, Fault::HeaderAlike) || (!second && !planted(Fault::AlikeSecond)) {
         return no(1);
     }
-    if !formed(b) {
+    if !second {
         return yes([0]);
     }
     let mut same = (a[0] == b[0] || planted(Fault::AlikeR)) && a[1] == b[1];
     if planted(Fault::AlikeSteps) {
-        same = same && a[2] == b[2];
+        same = same && counts::all(a) == counts::all(b);
     }
     for i in 0..size(a) {
         same = same && id(a, i) == id(b, i);
@@ -325,4 +338,4 @@ pub fn take_over(own: u32, h: u32, c: u32, h_list: &[u32], c_list: &[u32]) -> An
     yes([c_wins as u32, length as u32, 0])
 }
 
-// The image: a record takes 16 + 4r bytes, the head 10, the end 3.
+// The image: a record takes 20 + 4r bytes, the head 10, the end 3.

@@ -33,7 +33,7 @@ fn refused(number: u32) -> Runs {
 }
 
 pub fn held(table: &[u32], n: u32, keys: &[u32]) -> Runs {
-    if !formed(table) {
+    if !formed(table, Fault::HeaderHeld) {
         return refused(1);
     }
     let rising = rise(keys);

@@ -22,7 +22,7 @@ fn sound(t: &[u32], principals: usize, ideal: bool) -> bool {
 
 /// Is entry k of the list at place i left unseen by the planted fault?
 fn unseen(t: &[u32], i: usize, k: usize) -> bool {
-    let (n, r) = (size(t), width(t) - 4);
+    let (n, r) = (size(t), span(t));
     let lowest = i == 0;
     let highest = i + 1 == n;
     let turned = i + 1 + k >= n;
@@ -61,7 +61,10 @@ pub(super) fn ideal(t: &[u32]) -> bool {
         }
     }
     due.rotate_left(1);
-    for k in 0..width(t) - 4 {
+    if planted(Fault::IdealCount) && counts::all(t).iter().any(|&count| count > 0) {
+        return false;
+    }
+    for k in 0..span(t) {
         due.rotate_left(1);
         for (i, &up) in due.iter().enumerate() {
             if list(t, i)[k] != up && !unseen(t, i, k) {

@@ -13,12 +13,17 @@ fn word(at: &[u8]) -> u32 {
     (at[0] as u32) << 24 | (at[1] as u32) << 16 | (at[2] as u32) << 8 | at[3] as u32
 }
 
+/// How many bytes the field of a member has.
+fn record_of(r: usize) -> usize {
+    20 + 4 * r
+}
+
 pub fn image_write(table: &[u32], image: &mut [u8]) -> Answer {
-    if !formed(table) {
+    if !formed(table, Fault::HeaderImage) {
         return no(1);
     }
-    let (r, n) = (table[0] as usize, size(table));
-    let record = 16 + 4 * r;
+    let (r, n) = (span(table), size(table));
+    let record = record_of(r) - 4 * planted(Fault::ImageUncounted) as usize;
     let total = 13 + n * record;
     if image.len() < total + planted(Fault::ImageNoRoom) as usize {
         return no(10);
@@ -27,22 +32,28 @@ pub fn image_write(table: &[u32], image: &mut [u8]) -> Answer {
     image[3] = r as u8;
     image[4] = (n >> 8) as u8;
     image[5] = n as u8;
-    four(&mut image[6..], table[2]);
-    if planted(Fault::ImageLow) {
-        image[6..10].reverse();
-    }
+    let sum = counts::all(table).iter().fold(0, |sum: u32, &count| sum.wrapping_add(count));
+    four(&mut image[6..], if planted(Fault::ImageSum) { sum } else { 0 });
     for i in 0..n {
         let o = offset(table, i);
         let at = &mut image[10 + i * record..];
         at[0] = 2;
         at[1] = 0;
-        at[2] = (13 + 4 * r) as u8;
+        at[2] = (record - 3 - 4 * planted(Fault::ImageOlderLength) as usize) as u8;
         four(&mut at[3..], table[o]);
         four(&mut at[7..], table[o + 1]);
         at[11] = table[o + 2] as u8;
-        four(&mut at[12..], table[o + 3]);
-        for k in 0..r {
-            four(&mut at[16 + 4 * k..], table[o + 4 + k]);
+        // Candidate, list and step count, in a row.
+        for (k, &word) in table[o + 3..][..(record - 12) / 4].iter().enumerate() {
+            four(&mut at[12 + 4 * k..], word);
+        }
+        let count = record - 4..record;
+        if planted(Fault::ImageLow) {
+            at[count].reverse();
+        } else if planted(Fault::ImageCountFirst) {
+            at[16..record].rotate_right(4);
+        } else if planted(Fault::ImageCountZero) {
+            at[count].fill(0);
         }
     }
     image[total - 3..total].copy_from_slice(&[3, 0, 0]);
@@ -59,7 +70,20 @@ fn is_image(image: &[u8]) -> bool {
     if r < 1 || r > 8 || n > most {
         return false;
     }
-    let record = 16 + 4 * r;
+    let steps = &image[6..10];
+    let judged = if planted(Fault::ImageSteps) {
+        &[]
+    } else if planted(Fault::ImageStepsHigh) {
+        &steps[..1]
+    } else if planted(Fault::ImageStepsLow) {
+        &steps[3..]
+    } else {
+        steps
+    };
+    if judged.iter().any(|&byte| byte > 0) && !(planted(Fault::ImageStepsEmpty) && n == 0) {
+        return false;
+    }
+    let record = record_of(r);
     let total = 13 + n * record;
     if image.len() < total || (image.len() > total && !planted(Fault::ImageRest)) {
         return false;
@@ -91,6 +115,9 @@ pub fn image_read(table: &mut [u32], image: &[u8]) -> Answer {
         return no(10);
     }
     if !is_image(image) {
+        if let Some(image) = of_older(image) {
+            return image_read(table, &image);
+        }
         if planted(Fault::ImageHeader) && image.len() > 3 && !table.is_empty() {
             table[0] = image[3] as u32;
         }
@@ -98,15 +125,17 @@ pub fn image_read(table: &mut [u32], image: &[u8]) -> Answer {
     }
     let r = image[3] as usize;
     let n = image[4] as usize * 256 + image[5] as usize;
-    if table.len() < 3 + n * (r + 4) {
+    if table.len() < 3 + n * (r + 5) {
         return no(10);
     }
     table[0] = r as u32;
     table[1] = n as u32;
-    table[2] = word(&image[6..]);
+    if !planted(Fault::ReadHeader) {
+        table[2] = 0;
+    }
     for i in 0..n {
-        let at = &image[10 + i * (16 + 4 * r) + 3..];
-        let o = 3 + i * (r + 4);
+        let at = &image[10 + i * record_of(r) + 3..];
+        let o = 3 + i * (r + 5);
         table[o] = word(at);
         table[o + 1] = word(&at[4..]);
         table[o + 2] = at[8] as u32;
@@ -114,8 +143,32 @@ pub fn image_read(table: &mut [u32], image: &[u8]) -> Answer {
         for k in 0..r {
             table[o + 4 + k] = word(&at[13 + 4 * k..]);
         }
+        if planted(Fault::ReadCountZero) {
+            table[o + 4 + r] = 0;
+        } else if !planted(Fault::ReadCountLeft) {
+            table[o + 4 + r] = word(&at[13 + 4 * r..]);
+        }
     }
     yes([n as u32])
+}
+
+/// The image that the bytes are in the layout before this one, if it has members, in this one;
+/// by planted faults alone.
+fn of_older(image: &[u8]) -> Option<Vec<u8>> {
+    let fields = image.get(10..image.len().checked_sub(3)?).filter(|fields| !fields.is_empty())?;
+    let counts = word(&image[6..]) != 0;
+    if !planted(if counts { Fault::OlderImageCounted } else { Fault::OlderImage }) {
+        return None;
+    }
+    let mut bytes = [&image[..6], &[0; 4]].concat();
+    for field in fields.chunks(16 + 4 * image[3] as usize) {
+        bytes.extend(field.get(..2)?);
+        bytes.push(field.get(2)?.wrapping_add(4));
+        bytes.extend(&field[3..]);
+        bytes.extend([0; 4]);
+    }
+    bytes.extend(&image[image.len() - 3..]);
+    is_image(&bytes).then_some(bytes)
 }
 
 pub fn image_field(image: &[u8], position: usize) -> Answer {
@@ -128,7 +181,7 @@ pub fn image_field(image: &[u8], position: usize) -> Answer {
         if !head {
             return no(9);
         }
-        let step = 16 + 4 * image[3] as usize;
+        let step = record_of(image[3] as usize) - 4 * planted(Fault::OlderField) as usize;
         let mut left = image[4] as usize * 256 + image[5] as usize;
         let mut at = 10;
         while at < position && left > 0 && at < image.len() {
@@ -152,6 +205,9 @@ pub fn image_field(image: &[u8], position: usize) -> Answer {
         return no(9);
     }
     if found[1] as usize * 256 + found[2] as usize != length {
+        return no(9);
+    }
+    if planted(Fault::FieldSteps) && tag == 1 && found[6..10] != [0; 4] {
         return no(9);
     }
     if planted(Fault::FieldRest) && tag == 3 && found.len() > 3 {

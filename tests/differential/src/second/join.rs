@@ -75,10 +75,10 @@ fn thirteen(table: &mut [u32], by: usize, at: usize) -> Answer {
         table[1] += 1;
     }
     if planted(Fault::DeadSteps) {
-        table[2] = table[2].saturating_add(1);
+        counts::raise(table, by);
     }
     if planted(Fault::DeadDrops) {
-        let last = entries + w - 5;
+        let last = entries + span(table) - 1;
         let next = table[last].wrapping_add(1);
         table.copy_within(entries + 1..last + 1, entries);
         table[last] = next;
@@ -106,7 +106,7 @@ fn taken(table: &[u32], by: usize) -> Vec<u32> {
 }
 
 pub fn join(table: &mut [u32], j: u32, p: u32) -> Answer {
-    if !formed(table) {
+    if !formed(table, Fault::HeaderJoin) {
         return no(1);
     }
     let by = find(table, p);
@@ -121,6 +121,13 @@ pub fn join(table: &mut [u32], j: u32, p: u32) -> Answer {
         return no(3);
     };
     let w = width(table);
+    if planted(Fault::JoinOlderRoom) && table.len() - end(table) == w - 1 {
+        // As if there were one word more.
+        let mut longer = [&table[..], &[0]].concat();
+        let said = join(&mut longer, j, p);
+        table.copy_from_slice(&longer[..table.len()]);
+        return said;
+    }
     let most = if planted(Fault::JoinMost) { 255 } else { 256 };
     let room = table.len() - end(table);
     let needed = if planted(Fault::JoinRoom) { w + 1 } else { w };
@@ -144,7 +151,8 @@ pub fn join(table: &mut [u32], j: u32, p: u32) -> Answer {
     if full || short {
         return no(5);
     }
-    let record = table[offset(table, by)..offset(table, by + 1)].to_vec();
+    let before = table.to_vec();
+    let record = &before[offset(table, by)..offset(table, by + 1)];
     let entries = taken(table, by);
     let (from, to) = (offset(table, at), end(table));
     table.copy_within(from..to, from + w);
@@ -155,8 +163,14 @@ pub fn join(table: &mut [u32], j: u32, p: u32) -> Answer {
     if planted(Fault::JoinPending) {
         table[from + 2..from + 4].copy_from_slice(&record[2..4]);
     }
-    table[from + 4..from + w].copy_from_slice(&entries);
+    table[from + 4..from + w - 1].copy_from_slice(&entries);
+    table[from + w - 1] = counts::of_joiner(&before, j, by, table[from + w - 1]);
     table[1] += 1;
+    counts::moved_up(table, at, &counts::all(&before));
+    if planted(Fault::JoinCounts) {
+        let by = find(table, p).unwrap_or(0);
+        counts::raise(table, by);
+    }
     if planted(Fault::WordAfterTable) && end(table) < table.len() {
         let o = end(table);
         table[o] = 0;

@@ -19,7 +19,7 @@ fn is_dead(t: &[u32], i: usize, k: usize) -> bool {
 fn mistaken(t: &[u32], stood: &[usize], owner: usize, each: &[usize]) -> Option<usize> {
     let sum: usize = each.iter().sum();
     let (first, last) = (each[0], each[each.len() - 1]);
-    let r = width(t) - 4;
+    let r = span(t);
     let passed = || stood.iter().zip(each).map(|(&i, &count)| &list(t, i)[..count]);
     let all_dead = || (0..r).map(|k| stood.iter().filter(|&&i| is_dead(t, i, k)).count());
     let found = [
@@ -78,7 +78,7 @@ pub(super) fn eight(t: &[u32], stood: &[usize]) -> Answer {
         said.count = 2;
     }
     if planted(Fault::EightDead) {
-        said.values[1] = (sum + width(t) - 4) as u32;
+        said.values[1] = (sum + span(t)) as u32;
         said.count = 2;
     }
     if planted(Fault::EightHidden) {
@@ -103,7 +103,7 @@ pub(super) fn by_all(t: &[u32]) -> u32 {
     let on_ring = if planted(Fault::SettlePassedRing) { ring(t) } else { Vec::new() };
     let mut searching: Vec<usize> = (0..size(t)).filter(|&i| !left_out(t, i, &on_ring)).collect();
     let mut sum = planted(Fault::SettlePassedLive) as usize * size(t);
-    for k in 0..width(t) - 4 {
+    for k in 0..span(t) {
         if planted(Fault::SettlePassedAfter) {
             sum += searching.iter().filter(|&&i| is_dead(t, i, k)).count();
             continue;

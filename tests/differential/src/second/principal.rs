@@ -19,7 +19,7 @@ fn stands_in(table: &[u32], n: u32) -> bool {
 
 /// The pair at a number from 0, in the order of the records and of each list.
 fn pair(table: &[u32], number: usize) -> (u32, u32) {
-    let r = width(table) - 4;
+    let r = span(table);
     let (i, k) = (number / r, number % r);
     let before = if k == 0 { id(table, i) } else { list(table, i)[k - 1] };
     (before, list(table, i)[k])
@@ -27,7 +27,7 @@ fn pair(table: &[u32], number: usize) -> (u32, u32) {
 
 /// The pairs that a planted fault takes, in its order.
 fn wrong_order(table: &[u32], own: usize) -> Option<Vec<usize>> {
-    let (count, r) = (size(table), width(table) - 4);
+    let (count, r) = (size(table), span(table));
     let all = 0..count * r;
     let order: Vec<usize> = if planted(Fault::PrincipalFirstPair) {
         all.skip(1).collect()
@@ -75,7 +75,7 @@ fn taken(table: &[u32], n: u32, own: usize) -> Option<usize> {
     if let Some(order) = wrong_order(table, own) {
         return first(table, n, passes, order.into_iter());
     }
-    let all = 0..size(table) * (width(table) - 4);
+    let all = 0..size(table) * span(table);
     if planted(Fault::PrincipalFirstUnasked) {
         return first(table, n, passes, 1..all.end).map(|taken| taken + 1);
     }
@@ -95,6 +95,15 @@ fn taken(table: &[u32], n: u32, own: usize) -> Option<usize> {
     if planted(Fault::PrincipalLone) && size(table) == 1 {
         return None;
     }
+    if planted(Fault::PrincipalCount) {
+        let counted =
+            |i: usize| between(list(table, i)[span(table) - 1], n, table[counts::at(table, i)]);
+        let of_count = (0..size(table)).find(|&i| counted(i)).map(|i| (i + 1) * span(table));
+        return match (first(table, n, passes, all), of_count) {
+            (Some(taken), Some(by_count)) => Some(taken.min(by_count)),
+            (taken, by_count) => taken.or(by_count),
+        };
+    }
     if planted(Fault::PrincipalLastSkip) {
         let back = first(table, n, passes, all.clone().rev());
         return back.map(|taken| all.end + 1 - taken);
@@ -103,7 +112,7 @@ fn taken(table: &[u32], n: u32, own: usize) -> Option<usize> {
 }
 
 pub fn principal(table: &[u32], n: u32) -> Answer {
-    if !formed(table) {
+    if !formed(table, Fault::HeaderPrincipal) {
         let three = planted(Fault::PrincipalThreeFirst) && !stands_in(table, n);
         return no(if three { 3 } else { 1 });
     }

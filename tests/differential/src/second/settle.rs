@@ -34,12 +34,15 @@ fn deliver(table: &mut [u32], h: u32, n: u32, own: usize) {
         } else if planted(Fault::RoundLostNext) {
             to = Some((own + 1) % size(table));
         } else if planted(Fault::RoundLostCounted) {
-            table[2] = table[2].saturating_add(1);
+            counts::raise(table, own);
         }
     }
     let Some(to) = to else {
         return;
     };
+    if planted(Fault::RoundToldCounts) {
+        counts::raise(table, to);
+    }
     let told = table[offset(table, to) + 1];
     if planted(Fault::RoundKeepsDead) && find(table, told).is_none() {
         return;
@@ -49,11 +52,18 @@ fn deliver(table: &mut [u32], h: u32, n: u32, own: usize) {
 
 /// Steps until done: the shelf to be notified.
 fn until_done(table: &mut [u32], i: usize) -> Option<u32> {
-    let o = offset(table, i);
+    let (o, own) = (offset(table, i), counts::at(table, i));
     let most = if planted(Fault::RoundFewSteps) { table[0] as usize } else { STEPS };
     for _ in 0..most {
-        let (pending, c, steps) = (table[o + 2], table[o + 3], table[2]);
+        let (pending, c, steps) = (table[o + 2], table[o + 3], table[own]);
         let said = step_at(table, i).values;
+        if planted(Fault::RoundWraps) && steps == u32::MAX {
+            table[own] = 0;
+        }
+        if planted(Fault::RoundLowestCounts) {
+            table[own] = steps;
+            counts::raise(table, 0);
+        }
         if planted(Fault::RoundAdopts) && pending == 1 && find(table, c).is_none() {
             table[o + 4] = c;
         }
@@ -61,7 +71,7 @@ fn until_done(table: &mut [u32], i: usize) -> Option<u32> {
             2 => return Some(said[1]),
             1 if planted(Fault::RoundLookEnds) => return None,
             0 if planted(Fault::RoundAgainEnds) => return None,
-            0 if planted(Fault::RoundAgainUncounted) => table[2] = steps,
+            0 if planted(Fault::RoundAgainUncounted) => table[own] = steps,
             _ => {}
         }
     }
@@ -70,10 +80,11 @@ fn until_done(table: &mut [u32], i: usize) -> Option<u32> {
 
 /// The step that finishes a pending one: the shelf to be notified.
 fn finish(table: &mut [u32], i: usize) -> Option<u32> {
-    let (steps, c) = (table[2], table[offset(table, i) + 3]);
+    let own = counts::at(table, i);
+    let (steps, c) = (table[own], table[offset(table, i) + 3]);
     let done = until_done(table, i);
     if planted(Fault::RoundUncounted) {
-        table[2] = steps;
+        table[own] = steps;
     }
     match done {
         Some(_) if planted(Fault::RoundToCandidate) => Some(c),
@@ -85,20 +96,18 @@ fn finish(table: &mut [u32], i: usize) -> Option<u32> {
 /// The turn of the member at a place. `before` is the table as the round began.
 fn turn(table: &mut [u32], i: usize, before: &[u32], late: &mut Late) {
     let (o, n) = (offset(table, i), id(table, i));
-    let steps = table[2];
+    let steps = table[counts::at(table, i)];
     let mut kept = None;
     if planted(Fault::RoundStale) {
         // The steps see the other records as they stood before the round.
         let mut old = before.to_vec();
         let own = o..offset(table, i + 1);
-        old[2] = table[2];
         old[own.clone()].copy_from_slice(&table[own.clone()]);
         let mut told = Vec::new();
         if old[o + 2] == 1 {
             told.extend(until_done(&mut old, i));
         }
         told.extend(until_done(&mut old, i));
-        table[2] = old[2];
         table[own.clone()].copy_from_slice(&old[own]);
         told.into_iter().for_each(|h| deliver(table, h, n, i));
         return;
@@ -123,7 +132,7 @@ fn turn(table: &mut [u32], i: usize, before: &[u32], late: &mut Late) {
         deliver(table, h, n, i);
     }
     if planted(Fault::RoundOneCounted) {
-        table[2] = steps.saturating_add(1);
+        counts::put(table, i, &[steps.saturating_add(1)]);
     }
 }
 
@@ -147,7 +156,7 @@ fn run_round(table: &mut [u32]) {
     if planted(Fault::RoundIdealNone) && ideal(table) {
         return;
     }
-    let (n, steps) = (size(table), table[2]);
+    let n = size(table);
     if planted(Fault::RoundFinishAll) {
         for i in 0..n {
             if table[offset(table, i) + 2] == 1 {
@@ -169,18 +178,16 @@ fn run_round(table: &mut [u32]) {
         let own = find(table, from).unwrap_or(0);
         deliver(table, h, from, own);
     }
-    if planted(Fault::RoundWraps) && table[2] == u32::MAX {
-        table[2] = n as u32 - 1 - (u32::MAX - steps).min(n as u32 - 1);
-    }
     let past = end(table);
     if planted(Fault::RoundPast) && past < table.len() {
         table[past] = 0;
     }
 }
 
-/// The number that declines a call, 0 if none does.
-fn declined(table: &mut [u32], limit: u32) -> u32 {
-    if !formed(table) {
+/// The number that declines a call, 0 if none does. By the fault `unjudged` it does not look
+/// at the header's step count.
+fn declined(table: &mut [u32], limit: u32, unjudged: Fault) -> u32 {
+    if !formed(table, unjudged) {
         let members = table.get(1).copied().unwrap_or(0);
         return if planted(Fault::FourteenFirst) && members > 0 { 14 } else { 1 };
     }
@@ -241,7 +248,7 @@ fn verdict_of(table: &[u32]) -> u32 {
 }
 
 pub fn round(table: &mut [u32]) -> Answer {
-    let number = declined(table, 1);
+    let number = declined(table, 1, Fault::HeaderRound);
     if number != 0 {
         return refusal(number);
     }
@@ -283,7 +290,7 @@ fn taken(table: &[u32], limit: u32) -> u32 {
 }
 
 pub fn settle(table: &mut [u32], limit: u32) -> Answer {
-    let number = declined(table, limit);
+    let number = declined(table, limit, Fault::HeaderSettle);
     if number != 0 {
         return refusal(number);
     }
@@ -296,10 +303,9 @@ pub fn settle(table: &mut [u32], limit: u32) -> Answer {
         rounds = 1;
     }
     if planted(Fault::SettleNew) && most > 0 && !settled(table) {
-        let (r, steps) = (table[0], table[2]);
         let ids: Vec<u32> = (0..size(table)).map(|i| id(table, i)).collect();
-        new(table, r, &ids);
-        table[2] = steps;
+        new(table, table[0], &ids);
+        counts::put(table, 0, &counts::all(&began));
         rounds = 1;
     }
     while !settled(table) && rounds < most {
@@ -311,6 +317,12 @@ pub fn settle(table: &mut [u32], limit: u32) -> Answer {
             let o = offset(table, i);
             table[o + 2..o + 4].fill(0);
         }
+    }
+    if planted(Fault::SettleUncounted) || planted(Fault::SettleOneCounted) {
+        let each = if planted(Fault::SettleOneCounted) { rounds } else { 0 };
+        let mut all = counts::all(&began);
+        all.iter_mut().for_each(|count| *count = count.saturating_add(each));
+        counts::put(table, 0, &all);
     }
     let mut verdict = verdict_of(table);
     if planted(Fault::SettleVerdict) {
