@@ -76,29 +76,40 @@ more-counted (suc k) s h = go (less? (suc s) wordLimit) (more-counted k)
 abbrev countIn : Table → ℕ → ℕ
 countIn T x = named (T .members) x .steps
 
--- U is T after k steps of its member n, as far as counts go
-record Counting (n k : ℕ) (T U : Table) : Type 0 where
+-- U is T after k steps of its member n and any of the others, as n's count sees it
+record Seen (n k : ℕ) (T U : Table) : Type 0 where
   same-r : U .r ≡ T .r
   same-ids : ids (U .members) ≡ ids (T .members)
   own : countIn U n ≡ iterate nextStep k (countIn T n)
-  others : (x : ℕ) → (x ≡ n → ⊥) → countIn U x ≡ countIn T x
 
-counting-none : (n : ℕ) (T : Table) → Counting n 0 T T
-counting-none n T = record { same-r = refl; same-ids = refl; own = refl; others = λ x d. refl }
+seen-none : (n : ℕ) (T : Table) → Seen n 0 T T
+seen-none n T = record { same-r = refl; same-ids = refl; own = refl }
 
-counting-trans : {n j k : ℕ} {T U X : Table} → Counting n j T U → Counting n k U X → Counting n (j + k) T X
-counting-trans {n} {j} {k} {T} a b = record {
+seen-trans : {n j k : ℕ} {T U X : Table} → Seen n j T U → Seen n k U X → Seen n (j + k) T X
+seen-trans {n} {j} {k} {T} a b = record {
   same-r = b .same-r ∙ a .same-r;
   same-ids = b .same-ids ∙ a .same-ids;
   own = b .own ∙ ap (iterate nextStep k) (a .own) ∙ sym (iterate-add nextStep j k (countIn T n));
-  others = λ x d. b .others x d ∙ a .others x d;
 }
+
+-- and none of the others: their counts are as they were
+record Counting (n k : ℕ) (T U : Table) : Type 0 where
+  seen : Seen n k T U
+  others : (x : ℕ) → (x ≡ n → ⊥) → countIn U x ≡ countIn T x
+
+counting-none : (n : ℕ) (T : Table) → Counting n 0 T T
+counting-none n T = record { seen = seen-none n T; others = λ x d. refl }
+
+counting-trans : {n j k : ℕ} {T U X : Table} → Counting n j T U → Counting n k U X → Counting n (j + k) T X
+counting-trans a b = record { seen = seen-trans (a .seen) (b .seen); others = λ x d. b .others x d ∙ a .others x d }
 
 counting-step : (n : ℕ) (T : Table) → In n (ids (T .members)) → Counting n 1 T (stabilized n T)
 counting-step n T i = record {
-  same-r = refl;
-  same-ids = replaced-ids v ms;
-  own = ap (λ (m : Member). m .steps) placed ∙ ap nextStep (same-steps ms (named ms n) (spaceOf T));
+  seen = record {
+    same-r = refl;
+    same-ids = replaced-ids v ms;
+    own = ap (λ (m : Member). m .steps) placed ∙ ap nextStep (same-steps ms (named ms n) (spaceOf T));
+  };
   others = λ x d. ap (λ (m : Member). m .steps) (replaced-others v x ms (λ q. d (sym q ∙ is-n)));
 }
   where
@@ -142,7 +153,10 @@ module _ (n : ℕ) where
       go : (b : Bool) → live (T .members) h ≡ b → Counting n 0 T (if b then rectified h n T else T)
       go true e =
           let i = live-in (T .members) h e in
-          record { same-r = refl; same-ids = replaced-ids (rectifyIn (T .members) n (named (T .members) h)) (T .members); own = noticed h n T i n; others = λ x d. noticed h n T i x }
+          record {
+            seen = record { same-r = refl; same-ids = replaced-ids (rectifyIn (T .members) n (named (T .members) h)) (T .members); own = noticed h n T i n };
+            others = λ x d. noticed h n T i x;
+          }
       go false e = counting-none n T
 
   counting-last : (T : Table) → In n (ids (T .members)) → Counting n 1 T (lastStep n T)
@@ -159,7 +173,7 @@ module _ (n : ℕ) where
       go false ih =
           let a = counting-step n T i in
           let q : 1 + stepsUntil k n (stabilized n T) ≡ suc (stepsUntil k n (stabilized n T)) = omega arith in
-          subst (λ (j : ℕ). Counting n j T (untilDone k n (stabilized n T))) q (counting-trans a (ih (rw (a .same-ids) i)))
+          subst (λ (j : ℕ). Counting n j T (untilDone k n (stabilized n T))) q (counting-trans a (ih (rw (a .seen .same-ids) i)))
 
   counting-finished : (T : Table) → In n (ids (T .members)) → Counting n (bit (isPending (named (T .members) n))) T (finished n T)
   unfolding finished
@@ -171,7 +185,7 @@ module _ (n : ℕ) where
 
   counting-turn : (T : Table) → In n (ids (T .members)) → Counting n (stepsInTurn n T) T (afterTurn n T)
   unfolding stepsInTurn afterTurn
-  counting-turn T i = let a = counting-finished T i in counting-trans a (counting-until (suc (T .r)) (finished n T) (rw (a .same-ids) i))
+  counting-turn T i = let a = counting-finished T i in counting-trans a (counting-until (suc (T .r)) (finished n T) (rw (a .seen .same-ids) i))
 
   -- at least one step a turn, and at most r + 2
 
@@ -201,30 +215,17 @@ module _ (n : ℕ) where
 
 -- Turns of all members, as n's count sees them
 
--- U is T after k steps of n, and any of the others
-record Seen (n k : ℕ) (T U : Table) : Type 0 where
-  same-r : U .r ≡ T .r
-  same-ids : ids (U .members) ≡ ids (T .members)
-  own : countIn U n ≡ iterate nextStep k (countIn T n)
-
-seen-trans : {n j k : ℕ} {T U X : Table} → Seen n j T U → Seen n k U X → Seen n (j + k) T X
-seen-trans {n} {j} {k} {T} a b = record {
-  same-r = b .same-r ∙ a .same-r;
-  same-ids = b .same-ids ∙ a .same-ids;
-  own = b .own ∙ ap (iterate nextStep k) (a .own) ∙ sym (iterate-add nextStep j k (countIn T n));
-}
-
 module _ (n : ℕ) where
   -- the turn of x
   seen-turn : (x : ℕ) (T : Table) → In x (ids (T .members)) → Seen n (if eqb x n then stepsInTurn n T else 0) T (afterTurn x T)
-  seen-turn x T i = let a = counting-turn x T i in record { same-r = a .same-r; same-ids = a .same-ids; own = go (eqb x n) refl a }
+  seen-turn x T i = let a = counting-turn x T i in record { same-r = a .seen .same-r; same-ids = a .seen .same-ids; own = go (eqb x n) refl a }
     where
       go : (b : Bool) → eqb x n ≡ b → Counting x (stepsInTurn x T) T (afterTurn x T) → countIn (afterTurn x T) n ≡ iterate nextStep (if b then stepsInTurn n T else 0) (countIn T n)
-      go true e a = subst (λ (y : ℕ). countIn (afterTurn x T) y ≡ iterate nextStep (stepsInTurn y T) (countIn T y)) (eqb-true x n e) (a .own)
+      go true e a = subst (λ (y : ℕ). countIn (afterTurn x T) y ≡ iterate nextStep (stepsInTurn y T) (countIn T y)) (eqb-true x n e) (a .seen .own)
       go false e a = a .others n (λ q. eqb-false x n e (sym q))
 
   seen-turns : (xs : List ℕ) (T : Table) → ((x : ℕ) → In x xs → In x (ids (T .members))) → Seen n (stepsInTurns n xs T) T (afterTurns xs T)
-  seen-turns [] T f = record { same-r = refl; same-ids = refl; own = refl }
+  seen-turns [] T f = seen-none n T
   seen-turns (x ∷ xs) T f = let a = seen-turn x T (f x (here refl)) in seen-trans a (seen-turns xs (afterTurn x T) (λ y i. rw (a .same-ids) (f y (there i))))
 
   seen-round : (T : Table) → Seen n (stepsInRound n T) T (afterRound T)
@@ -232,7 +233,7 @@ module _ (n : ℕ) where
   seen-round T = seen-turns (ids (T .members)) T (λ x i. i)
 
   seen-rounds : (k : ℕ) (T : Table) → Seen n (stepsInRounds n k T) T (afterRounds k T)
-  seen-rounds zero T = record { same-r = refl; same-ids = refl; own = refl }
+  seen-rounds zero T = seen-none n T
   seen-rounds (suc k) T = seen-trans (seen-round T) (seen-rounds k (afterRound T))
 
   -- one turn a round is its own
@@ -309,7 +310,7 @@ module _ (n : ℕ) (ws : List ℕ) where
   stabilize-count m = go (memberRefusal ws m) refl
     where
       step : (b : Bool) → eqb m n ≡ b → Counting m 1 (tableOf ws) (stabilized m (tableOf ws)) → countIn (stabilized m (tableOf ws)) n ≡ iterate nextStep (bit b) (stepsOf ws n)
-      step true e a = subst (λ (x : ℕ). countIn (stabilized m (tableOf ws)) x ≡ nextStep (stepsOf ws x)) (eqb-true m n e) (a .own)
+      step true e a = subst (λ (x : ℕ). countIn (stabilized m (tableOf ws)) x ≡ nextStep (stepsOf ws x)) (eqb-true m n e) (a .seen .own)
       step false e a = a .others n (λ q. eqb-false m n e (sym q))
 
       go : (k : ℕ) → memberRefusal ws m ≡ k → stepsOf (afterwards k (written (stabilized m (tableOf ws)) ws) ws) n ≡ iterate nextStep (if eqb k 0 then bit (eqb m n) else 0) (stepsOf ws n)

@@ -9,7 +9,7 @@
 //!   three or more members; of images none with a step count or with members is read.
 
 use super::shapes::Shapes;
-use super::{Compare, Piece, Result};
+use super::{Compare, Piece, Result, NAMES};
 use crate::layout::{
     self, record, records, steps, steps_at, COUNT, HEADER, ID, PREDECESSOR, R, STEPS,
 };
@@ -76,26 +76,17 @@ const OLDER: [&str; 11] = [
     "an image with members, 9",
 ];
 
-/// The calls that take a table, and one that takes two. Each must decline by 1 a table that is
-/// well-formed but for its header's step count: 1, the largest, another.
-const TAKING: [&str; 15] = [
-    "join",
-    "stabilize",
-    "rectify",
-    "fail",
-    "leave",
-    "lookup",
-    "held",
-    "principal",
-    "audit",
-    "findings",
-    "round",
-    "settle",
-    "alike",
-    SECOND,
-    "image_write",
-];
+/// The calls that take no table, or make one without looking at the old words.
+const OTHERS: [&str; 4] = ["new", "take_over", "image_read", "image_field"];
 const SECOND: &str = "alike, the second table";
+const TAKING: usize = NAMES.len() - OTHERS.len() + 1;
+
+/// The calls that take a table, and last once more the one that takes two. Each must decline by 1
+/// a table that is well-formed but for its header's step count: 1, the largest, another.
+fn taking() -> impl Iterator<Item = &'static str> {
+    NAMES.into_iter().filter(|name| !OTHERS.contains(name)).chain([SECOND])
+}
+
 const HEADERS: [&str; 3] = ["1", "4294967295", "another number"];
 
 /// The calls so far. `tags`: images that tag 1's step count alone declines, by the one of its
@@ -103,7 +94,7 @@ const HEADERS: [&str; 3] = ["1", "4294967295", "another number"];
 pub struct Counts {
     shapes: Shapes<{ SHAPES.len() }>,
     older: Shapes<{ OLDER.len() }>,
-    headers: [[u64; HEADERS.len()]; TAKING.len()],
+    headers: [[u64; HEADERS.len()]; TAKING],
     tags: [u64; 5],
 }
 
@@ -196,7 +187,7 @@ impl Counts {
         Counts {
             shapes: Shapes::new(SHAPES),
             older: Shapes::new(OLDER),
-            headers: [[0; HEADERS.len()]; TAKING.len()],
+            headers: [[0; HEADERS.len()]; TAKING],
             tags: [0; 5],
         }
     }
@@ -206,7 +197,7 @@ impl Counts {
     }
 
     pub fn kinds_never_met(&self) -> Option<String> {
-        for (call, met) in TAKING.iter().zip(self.headers) {
+        for (call, met) in taking().zip(self.headers) {
             if let Some(kind) = met.iter().position(|&met| met == 0) {
                 return Some(format!("counts: {call} with {} in the header", HEADERS[kind]));
             }
@@ -221,9 +212,9 @@ impl Counts {
         format!("{shapes}; older: {older}; headers and tags that count, each {least} times or more")
     }
 
-    /// Counts a table that one of the calls in `TAKING` was given.
+    /// Counts a table that one of these calls was given.
     fn header(&mut self, name: &str, number: u32, words: &[u32]) {
-        let at = TAKING.iter().position(|&known| known == name);
+        let at = taking().position(|known| known == name);
         let counts = words.get(STEPS).copied().unwrap_or(0);
         if let Some(at) = at.filter(|_| number == 1 && counts != 0 && else_formed(words)) {
             let kind = match counts {
