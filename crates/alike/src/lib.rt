@@ -1,43 +1,51 @@
-// Alike: two tables with equal r, members and first entries.
+// Alike: two tables that are equal but for their step counts.
 ghost use mathlib.Core.Path.{_≡_};
-ghost use Prim.Native.Nat.{ℕ, _*_, _≤_};
-ghost use mathlib.Core.Bool.{_&&_};
-ghost use mathlib.Core.List.{map};
-ghost use lib.Dec.{eqb};
-ghost use lib.ListN.{length};
-ghost use Rattle.model.specs.Lists.{same};
-ghost use Rattle.model.specs.Table.{recordSize, memberOf, membersOf, tableOf, ids};
-ghost use Rattle.model.specs.Ring.{successor};
-ghost use Rattle.model.specs.Alike.{alike as alikeOf};
+ghost use Prim.Native.Nat.{_*_, _≤_};
+ghost use lib.ListN.{length, take};
+ghost use Rattle.model.specs.Lists.{same, sameBy};
+ghost use Rattle.model.specs.Table.{recordSize, memberOf, membersOf, tableOf};
+ghost use Rattle.model.specs.Alike.{alikeMember, alike as alikeOf};
 ghost use Rattle.model.specs.Calls.{alikeAnswer};
 ghost use Rattle.table.specs.FormedWords.{FormedWords};
 ghost use Rattle.answers.specs.YesNo.{answerOf};
 use answers::yes_no::YesNo;
 
-// Have the records that the two parts hold equal identifiers and first entries?
-fn record_alike(u: &[u32], v: &[u32]) -> bool
-    requires { ⌜ (recordSize 1 ≤ length (now u)) × (recordSize 1 ≤ length (now v)) ⌝ }
-    ensures { λ b. ⌜ ((r : ℕ) → 1 ≤ r → b ≡ (eqb (memberOf r (now (u .entry)) .id) (memberOf r (now (v .entry)) .id)
-        && eqb (successor (memberOf r (now (u .entry)))) (successor (memberOf r (now (v .entry)))))) ⌝ }
+// Are the first four words equal? All of them are looked at, so that four can be compared at once.
+fn four_same(u: &[u32], v: &[u32]) -> bool
+    requires { ⌜ (4 ≤ length (now u)) × (4 ≤ length (now v)) ⌝ }
+    ensures { λ b. ⌜ b ≡ same (take 4 (now (u .entry))) (take 4 (now (v .entry))) ⌝ }
 {
-    if u[words::ID] != v[words::ID] {
-        return false;
-    }
-    u[words::LIST] == v[words::LIST]
+    (u[0] == v[0]) & (u[1] == v[1]) & (u[2] == v[2]) & (u[3] == v[3])
 }
 
-// Have the n records at the front of each equal identifiers and first entries?
+// Are the records that the two parts hold equal but for their step counts? The first four words, the four just before the count, and, of lists of more than
+// four, the list's first four: these are all words but the count, some of them twice.
+fn record_alike(u: &[u32], v: &[u32], r: usize) -> bool
+    requires { ⌜ (r ≤ 8) × (recordSize r ≤ length (now u)) × (recordSize r ≤ length (now v)) ⌝ }
+    ensures { λ b. ⌜ b ≡ alikeMember (memberOf r (now (u .entry))) (memberOf r (now (v .entry))) ⌝ }
+{
+    if !four_same(u, v) {
+        return false;
+    }
+    if 4 < r {
+        if !four_same(&u[words::LIST..], &v[words::LIST..]) {
+            return false;
+        }
+    }
+    four_same(&u[r..], &v[r..])
+}
+
+// Are the n records at the front of each equal but for their step counts?
 fn records_alike(us: &[u32], vs: &[u32], r: usize, n: usize) -> bool
-    requires { ⌜ (1 ≤ r) × (r ≤ 8) × (n * recordSize r ≤ length (now us)) × (n * recordSize r ≤ length (now vs)) ⌝ }
-    ensures { λ b. ⌜ b ≡ (same (ids (membersOf r n (now (us .entry)))) (ids (membersOf r n (now (vs .entry))))
-        && same (map successor (membersOf r n (now (us .entry)))) (map successor (membersOf r n (now (vs .entry))))) ⌝ }
+    requires { ⌜ (r ≤ 8) × (n * recordSize r ≤ length (now us)) × (n * recordSize r ≤ length (now vs)) ⌝ }
+    ensures { λ b. ⌜ b ≡ sameBy alikeMember (membersOf r n (now (us .entry))) (membersOf r n (now (vs .entry))) ⌝ }
 {
     let w = words::record_size(r);
     let mut p = us;
     let mut q = vs;
     let mut left = n;
     while 0 < left {
-        if record_alike(&p[..w], &q[..w]) {
+        if record_alike(&p[..w], &q[..w], r) {
             p = &p[w..];
             q = &q[w..];
             left -= 1;
@@ -48,7 +56,7 @@ fn records_alike(us: &[u32], vs: &[u32], r: usize, n: usize) -> bool
     true
 }
 
-// Have two well-formed tables equal r, members and first entries?
+// Are two well-formed tables equal but for their step counts?
 fn tables_alike(us: &[u32], vs: &[u32]) -> bool
     requires { ⌜ FormedWords (now us) ⌝ }
     requires { ⌜ FormedWords (now vs) ⌝ }

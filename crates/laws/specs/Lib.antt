@@ -11,6 +11,7 @@ pub mod Words
 pub mod Pairs
 pub mod Tables
 pub mod Removed
+pub mod Uncounted
 pub mod Parts
 pub mod Accepted
 pub mod Stabilize

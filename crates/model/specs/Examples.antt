@@ -1,21 +1,25 @@
--- Worked examples, computed: document 01's table of them as one statement over a list of cases, then those of document 02's Req 01 to Req 07.
+-- Worked examples, computed: document 01's table of them as one statement over a list of cases, then those of document 02's Req 01 to Req 08.
 -- A yes is 1 and a no is 0; a number that stands alone is a call's refusal, 0 where it is accepted; other lists are a call's values.
-use Prim.Native.Nat.{ℕ}
+use Prim.Native.Nat.{ℕ, _+_, _*_}
 use mathlib.Core.Path.{_≡_, refl}
 use mathlib.Core.List.{List, [], _∷_, _++_, map}
-use lib.ListN.{length, replicate, take, drop}
+use lib.ListN.{length, replicate, take, drop, set}
 use Rattle.model.specs.Lists.{bit}
 use Rattle.model.specs.Identifier.{space, between, after}
 use Rattle.model.specs.Table.{Member, idle, Table, tableWith, size, recordOf, tableOf, membersIn, ids, wordsOf, wellFormed, formed, formedMember}
 use Rattle.model.specs.Ring.{named, searched, passedBy, passedByAll, sound, candidateInside, ideal, idealMember, verdict}
-use Rattle.model.specs.Steps.{withSteps, awaitCandidate, stabilizeFromSuccessor, stabilizeFromPredecessor, stabilize, stabilizeReply, nextStep, renews, lookup}
+use Rattle.model.specs.Answer.{accepted, declined}
+use Rattle.model.specs.Steps.{withSuccessors, withPredecessor, withPending, withSteps, awaitCandidate, stabilizeFromSuccessor, stabilizeFromPredecessor, stabilize, stabilizeReply, nextStep, renews, lookup}
 use Rattle.model.specs.New.{newTable}
+use Rattle.model.specs.Alike.{alikeMember, alike}
 use Rattle.model.specs.Image.{imageOf, isImage}
 use Rattle.model.specs.Held.{runsOf}
 use Rattle.model.specs.Settle.{delivered, lastStep, finished, afterTurn, afterRound, afterRounds, roundsRun, roundReply, settleReply}
-use Rattle.model.specs.Refusals.{full, newRefusal, noNewTable, joinRefusal, memberRefusal, leaveRefusal, cutsOff, tooFewPrincipals, heldRefusal, settleRefusal}
-use Rattle.model.specs.Calls.{joinAnswer, joinWords, stabilizeAnswer, stabilizeWords, failAnswer, failWords, newAnswer, newWords, leaveAnswer, leaveWords, heldAnswer, principalAnswer}
+use Rattle.model.specs.Refusals.{full, newRefusal, noNewTable, joinRefusal, memberRefusal, leaveRefusal, cutsOff, tooFewPrincipals, heldRefusal, settleRefusal, alikeRefusal}
+use Rattle.model.specs.Calls.{joinAnswer, joinWords, stabilizeAnswer, stabilizeWords, failAnswer, failWords, newAnswer, newWords, leaveAnswer, leaveWords, heldAnswer, principalAnswer, alikeAnswer, roundAnswer, roundWords, settleAnswer, settleWords}
+use Rattle.model.specs.Fold.{eachTells}
 use Rattle.model.specs.Run.{Join, Leave, Fail, Stabilize, callAnswer, callWords, run, grantedCall, granted}
+use Rattle.model.specs.Service.{Called, Round, Settle, serviceAnswer, serviceWords, answers}
 
 -- a case: what the definitions compute, and what document 01 says
 pub record Case : Type 0 where
@@ -312,3 +316,68 @@ pub step-counts : map (λ c. c .computed) countCases ≡ map (λ c. c .expected)
 unfolding run callWords joinWords joinRefusal full failWords stabilizeWords memberRefusal stabilize stabilizeFromSuccessor stabilizeFromPredecessor nextStep after
     between newWords newRefusal noNewTable isImage wellFormed formed formedMember space
 step-counts = refl
+
+-- Req 08: a record, and the same with another identifier, predecessor, pending, candidate, first entry, last entry, step count
+
+abbrev pub record20 : Member
+record20 = awaitCandidate 25 (idle 20 10 (30 ∷ 40 ∷ []))
+
+pub alike-records : map (λ m. bit (alikeMember record20 m)) (record20 ∷ awaitCandidate 25 (idle 21 10 (30 ∷ 40 ∷ [])) ∷ withPredecessor 11 record20 ∷ withPending 0 25 record20
+    ∷ awaitCandidate 26 record20 ∷ withSuccessors (31 ∷ 40 ∷ []) record20 ∷ withSuccessors (30 ∷ 41 ∷ []) record20 ∷ withSteps 1 record20 ∷ [])
+    ≡ 1 ∷ 0 ∷ 0 ∷ 0 ∷ 0 ∷ 0 ∷ 0 ∷ 1 ∷ []
+unfolding alikeMember
+alike-records = refl
+
+-- the table of (h) beside itself with the word k changed to x; words 10 to 16 are the record of 20
+
+abbrev pub changed : ℕ → ℕ → List ℕ
+changed k x = alikeAnswer tableH (set tableH k x) .values
+
+-- 20 has a candidate pending
+abbrev pub waiting : ℕ → List ℕ
+waiting c = set (set tableH 12 1) 13 c
+
+-- two members and no room for a third, 1 with a candidate that nobody can join as
+abbrev pub hidden : ℕ → List ℕ
+hidden c = wordsOf (tableWith 1 (idle 0 1 (1 ∷ []) ∷ awaitCandidate c (idle 1 0 (0 ∷ [])) ∷ []))
+
+-- yes or no
+abbrev pub alikeCases : List Case
+alikeCases =
+    -- identifier, predecessor, pending, first and last entry are compared
+    (changed 10 21 ++ changed 11 30 ++ changed 12 1 ++ changed 14 25 ++ changed 15 25 gives 0 ∷ 0 ∷ 0 ∷ 0 ∷ 0 ∷ []) ∷
+    -- candidates too
+    (alikeAnswer (waiting 25) (waiting 25) .values ++ alikeAnswer (waiting 25) (waiting 26) .values gives 1 ∷ 0 ∷ []) ∷
+    -- the step count is not, nor is a word after the last record
+    (changed 16 1 ++ changed 24 1 gives 1 ∷ 1 ∷ []) ∷
+    -- other members, one member less, another r
+    (alikeAnswer tableH (ringOf (10 ∷ 20 ∷ 31 ∷ [])) .values ++ alikeAnswer tableH lostH .values ++ alikeAnswer tableH (newWords blank 1 (10 ∷ 20 ∷ 30 ∷ [])) .values gives 0 ∷ 0 ∷ 0 ∷ []) ∷
+    -- 1 for either
+    (alikeAnswer tableH blank .number ∷ alikeAnswer blank tableH .number ∷ [] gives 1 ∷ 1 ∷ []) ∷
+    -- slices of other lengths: yes, and yet a join is accepted on one and gets 5 on the other
+    (alikeAnswer lostH tightH .values ++ joinAnswer lostH 35 30 .number ∷ joinAnswer tightH 35 30 .number ∷ [] gives 1 ∷ 0 ∷ 5 ∷ []) ∷
+    -- no, of two sound tables; the one step that reads the candidate replies the same, and forgets it, and alike says yes
+    (alikeAnswer (hidden 2) (hidden 3) .values ++ verdict (tableOf (hidden 2)) ∷ verdict (tableOf (hidden 3)) ∷ [] gives 0 ∷ 2 ∷ 2 ∷ []) ∷
+    (stabilizeAnswer (hidden 2) 1 .values ++ stabilizeAnswer (hidden 3) 1 .values gives 2 ∷ 0 ∷ 2 ∷ 0 ∷ []) ∷
+    (alikeAnswer (stabilizeWords (hidden 2) 1) (stabilizeWords (hidden 3) 1) .values gives 1 ∷ []) ∷
+    -- only 1 could let 2 or 3 join, and there is no room
+    (joinAnswer (hidden 2) 2 1 .number ∷ joinAnswer (hidden 3) 3 1 .number ∷ [] gives 5 ∷ 5 ∷ []) ∷ []
+
+pub finer-alike : map (λ c. c .computed) alikeCases ≡ map (λ c. c .expected) alikeCases
+unfolding alikeAnswer alikeRefusal alike alikeMember joinAnswer joinRefusal full failWords stabilizeAnswer stabilizeWords stabilizeReply memberRefusal stabilize
+    stabilizeFromSuccessor stabilizeFromPredecessor nextStep between newWords newRefusal noNewTable verdict sound ideal idealMember candidateInside wellFormed formed
+    formedMember space
+finer-alike = refl
+
+-- what each call of a list tells, on the state that it is given: of numbers that are added up
+pub each-tells : eachTells (λ s c. s + c) (λ s c. 10 * s + c) (1 ∷ 2 ∷ 3 ∷ []) 0 ≡ 1 ∷ 12 ∷ 33 ∷ []
+each-tells = refl
+
+-- and so what a list of calls answers, one by one
+pub in-order : answers (Called (Join 25 20) ∷ Called (Join 25 20) ∷ Called (Stabilize 25) ∷ Called (Fail 25) ∷ Called (Stabilize 25) ∷ Settle 9 ∷ Round ∷ []) tableH
+    ≡ accepted (4 ∷ []) ∷ declined 2 ∷ accepted (2 ∷ 30 ∷ []) ∷ accepted (3 ∷ []) ∷ declined 3 ∷ accepted (0 ∷ 2 ∷ 0 ∷ []) ∷ accepted (2 ∷ []) ∷ []
+unfolding answers serviceAnswer serviceWords callAnswer callWords joinAnswer joinWords joinRefusal full failAnswer failWords stabilizeAnswer stabilizeWords
+    stabilizeReply memberRefusal stabilize stabilizeFromSuccessor stabilizeFromPredecessor nextStep between after renews delivered lastStep finished afterTurn
+    afterRound settleAnswer settleWords roundAnswer roundWords settleRefusal newWords newRefusal noNewTable verdict sound ideal idealMember candidateInside
+    wellFormed formed formedMember space
+in-order = refl

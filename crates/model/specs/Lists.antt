@@ -37,6 +37,13 @@ module _ {A : Type 0} where
   abbrev pub withoutLast : List A → List A
   withoutLast l = take (length l - 1) l
 
+  -- two lists have equally many elements, and the test holds of each two that stand in the same place
+  abbrev pub sameBy : (A → A → Bool) → List A → List A → Bool
+  sameBy test [] [] = true
+  sameBy test [] (y ∷ m) = false
+  sameBy test (x ∷ l) [] = false
+  sameBy test (x ∷ l) (y ∷ m) = test x y && sameBy test l m
+
   -- new elements in the place of the first of the old ones, and the later old ones unchanged
   abbrev pub overlay : List A → List A → List A
   overlay new old = new ++ drop (length new) old
@@ -77,7 +84,4 @@ rising (x ∷ l) = risingFrom x l
 
 -- two lists are equal
 abbrev pub same : List ℕ → List ℕ → Bool
-same [] [] = true
-same [] (y ∷ m) = false
-same (x ∷ l) [] = false
-same (x ∷ l) (y ∷ m) = eqb x y && same l m
+same l m = sameBy eqb l m

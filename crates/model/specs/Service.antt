@@ -2,7 +2,7 @@
 use Prim.Native.Nat.{ℕ}
 use mathlib.Core.Bool.{Bool, true, false, not}
 use mathlib.Core.List.{List, []}
-use Rattle.model.specs.Fold.{afterAll, eachMeets}
+use Rattle.model.specs.Fold.{afterAll, eachTells, eachMeets}
 use Rattle.model.specs.Answer.{Answer}
 use Rattle.model.specs.Calls.{roundAnswer, roundWords, settleAnswer, settleWords}
 use Rattle.model.specs.Run.{Call, numbersOf, callAnswer, callWords, grantedCall, goes}
@@ -34,6 +34,10 @@ serviceWords ws (Settle limit) = settleWords ws limit
 -- the slice after a list of them, each on what the last one left
 unfoldable pub served : List Service → List ℕ → List ℕ
 served ss ws = afterAll serviceWords ss ws
+
+-- what a list of them answers, one by one, each on what the last one left
+unfoldable pub answers : List Service → List ℕ → List Answer
+answers ss ws = eachTells serviceWords serviceAnswer ss ws
 
 -- a loss, if accepted, is one that a withdrawal in its place would be granted
 unfoldable pub grantedService : List ℕ → Service → Bool

@@ -1,17 +1,17 @@
 -- The proof of settle's bound: Far's rounds and one more until no successor is wrong, then Right's until no entry is; and what that says of slices.
 use mathlib.Core.Path.{_≡_, refl, sym, ap, ap₂, subst, _∙_}
-use mathlib.Core.Bool.{Bool, true, false, not, _&&_, false≢true}
-use mathlib.Core.List.{List, [], _∷_, map}
+use mathlib.Core.Bool.{Bool, true, false, not, false≢true}
+use mathlib.Core.List.{List, [], _∷_}
 use Prim.Native.Nat.{ℕ, zero, suc, _+_, _-_, _*_, _≤_}
 use native.Mathlib.Omega.{arith}
 use lib.Dec.{eqb}
 use lib.ListN.{length, getD, take, drop}
 use borrow.Author.Tests.{eqb-true, eqb-false}
 use Rattle.model.specs.Lists.{if_then_else_, every, count}
-use Rattle.model.specs.Table.{Member, Table, tableWith, size, tableOf, membersIn, ids}
-use Rattle.model.specs.Ring.{named, principal, idealMember, ideal, verdict, nextUp, passedByAll}
+use Rattle.model.specs.Table.{Table, tableWith, size, tableOf, membersIn, ids}
+use Rattle.model.specs.Ring.{named, principal, ideal, verdict, nextUp, passedByAll}
 use Rattle.model.specs.Answer.{Answer, accepted}
-use Rattle.model.specs.Steps.{withSteps, uncounted}
+use Rattle.model.specs.Steps.{uncounted}
 use Rattle.model.specs.New.{newTable}
 use Rattle.model.specs.Settle.{afterRound, afterRounds, roundsRun, afterSettle, settleReply}
 use Rattle.model.specs.Calls.{written, roundAnswer, roundWords, settleAnswer, settleWords}
@@ -19,11 +19,13 @@ use Rattle.model.specs.Fold.{afterAll}
 use Rattle.model.specs.Service.{Service, Called, Round, Settle, serviceWords, served}
 use Rattle.laws.specs.Lists.{In, found, live-in, length-ids, any-in, count-any, count-length, count-not}
 use Rattle.laws.specs.Accepted.{settle-accepts}
-use Rattle.laws.specs.Words.{written-table, written-same, written-rest, written-over}
+use Rattle.laws.specs.Words.{written-same, written-rest, written-over}
+use Rattle.laws.specs.Uncounted.{ideal-uncounted}
 use Rattle.laws.specs.Tables.{formed-facts, wellFormed-facts, sound-facts, facts-sound, formed-lists}
 use Rattle.theory.specs.Bound.{enough, rounds, AtRest, SettlesAfter, oneLess, mostRounds, document02, EnoughIsFew, SettleEnds, SettleLeaves, isUpkeep, roundsIn, UpkeepSettles, StepsEnd}
 use Rattle.theory.specs.Keep.{Kept}
-use Rattle.theory.specs.Runs.{Good, good-kept, written-good}
+use Rattle.theory.specs.Forms.{Written, written-leaves}
+use Rattle.theory.specs.Runs.{Good, good-kept, leaves-good}
 use Rattle.theory.specs.New.{new-ideal}
 use Rattle.theory.specs.Turns.{round-lasts, rounds-last, same-size}
 use Rattle.theory.specs.Calm.{turn-until}
@@ -39,20 +41,6 @@ rounds-add (suc a) b (suc n) T e = rounds-add a b n (afterRound T) (omega arith)
 first-one : (l : List ℕ) (x : ℕ) → 1 ≤ length l → getD l 0 0 ≡ x → take 1 l ≡ x ∷ []
 first-one [] x h e = absurd (omega arith)
 first-one (y ∷ l) x h e = ap (λ (z : ℕ). z ∷ []) e
-
--- step counts are no part of what makes a table ideal
-uncounted-ids : (ms : List Member) → ids (map (withSteps 0) ms) ≡ ids ms
-uncounted-ids [] = refl
-uncounted-ids (m ∷ ms) = ap (λ (l : List ℕ). m .id ∷ l) (uncounted-ids ms)
-
-uncounted-every : (r : ℕ) (xs : List ℕ) (ms : List Member) → every (idealMember r xs) (map (withSteps 0) ms) ≡ every (idealMember r xs) ms
-unfolding idealMember
-uncounted-every r xs [] = refl
-uncounted-every r xs (m ∷ ms) = ap (λ (b : Bool). idealMember r xs m && b) (uncounted-every r xs ms)
-
-ideal-uncounted : (T : Table) → ideal (uncounted T) ≡ ideal T
-unfolding ideal
-ideal-uncounted T = rw (uncounted-ids (T .members)) (uncounted-every (T .r) (ids (T .members)) (T .members))
 
 -- One sound table
 
@@ -153,11 +141,13 @@ steps-end T f s n l = turn-until n T (record { formed = formed-facts T f; is-sou
 -- Slices
 
 -- so many rounds of the table, written over the slice, are a sound table's slice again
-pub rounds-slice : (j : ℕ) (ws : List ℕ) → Good ws → Good (written (afterRounds j (tableOf ws)) ws) × (tableOf (written (afterRounds j (tableOf ws)) ws) ≡ afterRounds j (tableOf ws))
-rounds-slice j ws s =
+pub rounds-leaves : (j : ℕ) (ws : List ℕ) → Good ws → Written (afterRounds j (tableOf ws)) (written (afterRounds j (tableOf ws)) ws) ws
+rounds-leaves j ws s =
     let a = rounds-last j (tableOf ws) (good-kept ws s) in
-    let g = written-good (afterRounds j (tableOf ws)) ws (a .kept) (omega (arith, same-size a, wellFormed-facts ws (s .well-formed) .fits)) in
-    (g, written-table (afterRounds j (tableOf ws)) ws (formed-lists (afterRounds j (tableOf ws)) (a .kept .formed)))
+    written-leaves (afterRounds j (tableOf ws)) ws (a .kept .formed) (omega (arith, same-size a, wellFormed-facts ws (s .well-formed) .fits))
+
+pub rounds-slice : (j : ℕ) (ws : List ℕ) → Good ws → Good (written (afterRounds j (tableOf ws)) ws) × (tableOf (written (afterRounds j (tableOf ws)) ws) ≡ afterRounds j (tableOf ws))
+rounds-slice j ws s = let l = rounds-leaves j ws s in (leaves-good l (rounds-last j (tableOf ws) (good-kept ws s) .kept .is-sound), l .table)
 
 module _ (ws : List ℕ) (s : Good ws) where
   round-is : roundWords ws ≡ written (afterRound (tableOf ws)) ws

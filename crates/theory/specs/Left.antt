@@ -21,7 +21,7 @@ use Rattle.laws.specs.Words.{Lengths, written-table, writtenFreed-table}
 use Rattle.laws.specs.Tables.{wellFormed-facts, formed-lists}
 use Rattle.laws.specs.Removed.{staying-from}
 use Rattle.theory.specs.Keep.{Changed, replaced-changed, inserted-changed}
-use Rattle.theory.specs.Steps.{adopted-length, dropped-length}
+use Rattle.theory.specs.Forms.{adopted-length, dropped-length}
 
 -- the old members and at most one record with a list of r entries
 changed-lists : (r : ℕ) (ms ns : List Member) (v : Member) → Lengths r ms → length (v .successors) ≡ r → Changed ms v ns → Lengths r ns

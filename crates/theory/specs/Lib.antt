@@ -1,10 +1,12 @@
--- Theorems about model alone. Claim has demand 3's statement, Demand3 its proof; Bound has settle's bound, BoundProof its proof.
+-- Theorems about model alone. Claim has demand 3's statement, Demand3 its proof; Bound has settle's bound, BoundProof its proof; Counts and Alike state, CountsProof,
+-- AlikeProof and Unlike prove.
 pub mod Claim
 pub mod Entries
 pub mod Walks
 pub mod Orbit
 pub mod Static
 pub mod Keep
+pub mod Forms
 pub mod Steps
 pub mod Left
 pub mod Runs
@@ -28,6 +30,9 @@ pub mod Right
 pub mod BoundProof
 pub mod Counts
 pub mod CountsProof
+pub mod Alike
+pub mod AlikeProof
+pub mod Unlike
 pub mod Passed
 pub mod Joins
 pub mod Served

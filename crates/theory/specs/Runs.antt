@@ -2,29 +2,27 @@
 use mathlib.Core.Path.{_≡_, refl, sym, ap, _∙_}
 use mathlib.Core.Bool.{Bool, true, _&&_}
 use mathlib.Core.List.{List}
-use Prim.Native.Nat.{ℕ, suc, _+_, _*_, _≤_, _<_}
-use native.Mathlib.Omega.{arith}
+use Prim.Native.Nat.{ℕ, _≤_, _<_}
 use lib.ListN.{length}
 use lib.Dec.{ltb}
 use borrow.Author.Tests.{ltb-true, eqb-true, eq-eqb}
 use Rattle.model.specs.Lists.{every}
-use Rattle.model.specs.Table.{Member, Table, spaceOf, headerSize, recordSize, size, tableOf, membersIn, wellFormed}
-use Rattle.model.specs.Ring.{named, sound}
-use Rattle.model.specs.Steps.{joiner, joined, stabilize, stabilized, replaced, rectifyIn, rectified, isNamed, without, countStep}
+use Rattle.model.specs.Table.{Table, spaceOf, size, tableOf, wellFormed}
+use Rattle.model.specs.Ring.{sound}
+use Rattle.model.specs.Steps.{joined, stabilized, rectified, isNamed, without}
 use Rattle.model.specs.Answer.{afterwards}
 use Rattle.model.specs.Fold.{afterAll, eachMeets}
 use Rattle.model.specs.Refusals.{joinRefusal, memberRefusal, leaveRefusal}
 use Rattle.model.specs.Calls.{written, writtenFreed, joinWords, stabilizeWords, rectifyWords, failAnswer, failWords, leaveAnswer, leaveWords}
 use Rattle.model.specs.Run.{Call, Join, Leave, Fail, Stabilize, Rectify, Lookup, Audit, numbersOf, callAnswer, callWords, run, grantedCall, granted}
 use Rattle.laws.specs.Fold.{all-keep, all-meet}
-use Rattle.laws.specs.Lists.{and-true, implied, length-ids, live-in}
+use Rattle.laws.specs.Lists.{and-true, implied}
 use Rattle.laws.specs.Accepted.{answer-number, afterwards-has, join-accepted, member-table, member-accepted, MayLeave, leave-accepted, has-room}
-use Rattle.laws.specs.Words.{written-table, writtenFreed-table}
-use Rattle.laws.specs.Tables.{wellFormed-facts, facts-wellFormed, sound-facts, facts-sound, formed-lists, written-formed, writtenFreed-formed}
-use Rattle.laws.specs.Removed.{without-size}
+use Rattle.laws.specs.Tables.{Sound, wellFormed-facts, sound-facts, facts-sound}
 use Rattle.theory.specs.Claim.{Starts}
 use Rattle.theory.specs.Left.{joined-read, stabilized-read, rectified-read, without-read}
-use Rattle.theory.specs.Keep.{Kept, replaced-ids, inserted-length}
+use Rattle.theory.specs.Keep.{Kept}
+use Rattle.theory.specs.Forms.{Written, written-leaves, join-leaves, stabilize-leaves, rectify-leaves, without-leaves}
 use Rattle.theory.specs.Steps.{joined-kept, stabilized-kept, rectified-kept, without-kept}
 
 -- what every call keeps of a slice
@@ -35,34 +33,17 @@ pub record Good (ws : List ℕ) : Type 0 where
 pub good-kept : (ws : List ℕ) → Good ws → Kept (tableOf ws)
 good-kept ws g = record { formed = wellFormed-facts ws (g .well-formed) .table; is-sound = sound-facts (tableOf ws) (g .is-sound) }
 
-fits : (ws : List ℕ) → Good ws → size (tableOf ws) ≤ length ws
-fits ws g = wellFormed-facts ws (g .well-formed) .fits
+pub leaves-good : {T : Table} {us ws : List ℕ} → Written T us ws → Sound T → Good us
+leaves-good {T} l s = record { well-formed = l .well-formed; is-sound = ap sound (l .table) ∙ facts-sound T s }
 
 pub written-good : (T : Table) (ws : List ℕ) → Kept T → size T ≤ length ws → Good (written T ws)
-written-good T ws k h = record {
-  well-formed = facts-wellFormed (written T ws) (written-formed T ws (k .formed) h);
-  is-sound = ap sound (written-table T ws (formed-lists T (k .formed))) ∙ facts-sound T (k .is-sound);
-}
-
-writtenFreed-good : (T : Table) (ws : List ℕ) → Kept T → size T + recordSize (T .r) ≤ length ws → Good (writtenFreed T ws)
-writtenFreed-good T ws k h = record {
-  well-formed = facts-wellFormed (writtenFreed T ws) (writtenFreed-formed T ws (k .formed) h);
-  is-sound = ap sound (writtenFreed-table T ws (formed-lists T (k .formed))) ∙ facts-sound T (k .is-sound);
-}
-
--- Sizes: the words that one member more, or one less, takes
-
-more-size : (r m n : ℕ) → m ≡ suc n → headerSize + m * recordSize r ≡ (headerSize + n * recordSize r) + recordSize r
-more-size r m n e = rw e (omega arith)
+written-good T ws k h = leaves-good (written-leaves T ws (k .formed) h) (k .is-sound)
 
 -- Each call
 
 module _ (ws : List ℕ) (g : Good ws) where
   k : Kept (tableOf ws)
   k = good-kept ws g
-
-  replaced-size : (v : Member) → headerSize + length (replaced v (membersIn ws)) * recordSize (tableOf ws .r) ≤ length ws
-  replaced-size v = rw (sym (length-ids (replaced v (membersIn ws))) ∙ ap length (replaced-ids v (membersIn ws)) ∙ length-ids (membersIn ws)) (fits ws g)
 
   join-good : (j p : ℕ) → j < spaceOf (tableOf ws) → Good (joinWords ws j p)
   unfolding joinWords
@@ -71,29 +52,24 @@ module _ (ws : List ℕ) (g : Good ws) where
       go : joinRefusal ws j p ≡ 0 → Good (written (joined j p (tableOf ws)) ws)
       go e =
           let a = join-accepted ws j p e in
-          let room = has-room ws (a .room) in
-          let grown = more-size (tableOf ws .r) _ (length (membersIn ws)) (inserted-length (joiner (membersIn ws) j p) (membersIn ws)) in
-          written-good (joined j p (tableOf ws)) ws (joined-kept (tableOf ws) k j p hj (a .new) (a .by) (a .inside) (room .0)) (omega (arith, fits ws g))
+          leaves-good (join-leaves ws j p hj e) (joined-kept (tableOf ws) k j p hj (a .new) (a .by) (a .inside) (has-room ws (a .room) .0) .is-sound)
 
   pub stabilize-good : (n : ℕ) → Good (stabilizeWords ws n)
   unfolding stabilizeWords
   stabilize-good n = afterwards-has Good (memberRefusal ws n) (written (stabilized n (tableOf ws)) ws) ws go g
     where
       go : memberRefusal ws n ≡ 0 → Good (written (stabilized n (tableOf ws)) ws)
-      go e = written-good (stabilized n (tableOf ws)) ws (stabilized-kept (tableOf ws) k n (member-accepted ws n e))
-          (replaced-size (countStep (stabilize (spaceOf (tableOf ws)) (membersIn ws) (named (membersIn ws) n))))
+      go e = leaves-good (stabilize-leaves ws n e) (stabilized-kept (tableOf ws) k n (member-accepted ws n e) .is-sound)
 
   rectify-good : (n q : ℕ) → q < spaceOf (tableOf ws) → Good (rectifyWords ws n q)
   unfolding rectifyWords
   rectify-good n q hq = afterwards-has Good (memberRefusal ws n) (written (rectified n q (tableOf ws)) ws) ws go g
     where
       go : memberRefusal ws n ≡ 0 → Good (written (rectified n q (tableOf ws)) ws)
-      go e = written-good (rectified n q (tableOf ws)) ws (rectified-kept (tableOf ws) k n q hq (member-accepted ws n e)) (replaced-size (rectifyIn (membersIn ws) q (named (membersIn ws) n)))
+      go e = leaves-good (rectify-leaves ws n q hq e) (rectified-kept (tableOf ws) k n q hq (member-accepted ws n e) .is-sound)
 
   without-good : (n : ℕ) → MayLeave ws n → Good (writtenFreed (without n (tableOf ws)) ws)
-  without-good n a =
-      writtenFreed-good (without n (tableOf ws)) ws (without-kept (tableOf ws) k (isNamed n) (a .none-cut-off) (a .enough-left))
-      (omega (arith, fits ws g, without-size n (tableOf ws) (k .formed) (live-in (membersIn ws) n (a .is-member))))
+  without-good n a = leaves-good (without-leaves ws n (a .table) (a .is-member)) (without-kept (tableOf ws) k (isNamed n) (a .none-cut-off) (a .enough-left) .is-sound)
 
   pub leave-good : (n : ℕ) → Good (leaveWords ws n)
   unfolding leaveWords

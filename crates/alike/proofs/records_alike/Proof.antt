@@ -5,16 +5,18 @@ use native.Mathlib.Omega.{arith}
 use lib.ListN.{length}
 use lib.Seq.{length-take-le}
 use borrow.Author.Needs.{needs}
+use Rattle.model.specs.Lists.{sameBy}
 use Rattle.model.specs.Table.{recordSize, memberOf, membersOf}
+use Rattle.model.specs.Alike.{alikeMember}
 use Rattle.laws.specs.Parts.{part-from, one-fits, rest-fits}
 use Rattle.laws.specs.Words.{member-part}
-use Rattle.alike.proofs.Records.{sameMember, sameMembers, unlike-here, alike-on}
+use Rattle.alike.proofs.Records.{unlike-here, alike-on}
 use Rattle.alike.proofs.records_alike.Statement.{statement}
 use Rattle.alike.proofs.records_alike.Tie as tie
 
 abbrev Inv-loop : tie.InvT-loop
 Inv-loop us vs r n w p₀ q₀ left₀ p q left = (left * recordSize r ≤ length p) × (left * recordSize r ≤ length q)
-    × (sameMembers (membersOf r left p) (membersOf r left q) ≡ sameMembers (membersOf r n us) (membersOf r n vs))
+    × (sameBy alikeMember (membersOf r left p) (membersOf r left q) ≡ sameBy alikeMember (membersOf r n us) (membersOf r n vs))
 
 abbrev μ-loop : tie.MeasureT-loop
 μ-loop us vs r n w p₀ q₀ left₀ p q left = left
@@ -41,17 +43,18 @@ slice-aggregate-record-alike-2 c = sym (length-take-le _ _ (one (c .before .befo
 record-alike-requires : tie.Need-record-alike-requires Inv-loop μ-loop
 record-alike-requires c κs =
     let i = c .before .before in
-    (rw (length-take-le _ _ (one i .0)) (omega arith), rw (length-take-le _ _ (one i .1)) (omega arith))
+    let w = size i .record-size .ensures in
+    (search needs, rw (length-take-le _ _ (one i .0), w) (omega arith), rw (length-take-le _ _ (one i .1), w) (omega arith))
 
 -- the records' parts answer as the tables do
 same-test : (c : tie.After-record-alike Inv-loop μ-loop)
     → let i = c .before .before .before in let r = start i .args .r in c .record-alike .result
-    ≡ sameMember (memberOf r (i .before .loop .p .now)) (memberOf r (i .before .loop .q .now))
+    ≡ alikeMember (memberOf r (i .before .loop .p .now)) (memberOf r (i .before .loop .q .now))
 same-test c =
     let i = c .before .before .before in
     let r = start i .args .r in
     let w = size i .record-size .ensures in
-    c .record-alike .ensures r (search needs) ∙ ap₂ sameMember (member-part r _ (i .before .loop .p .now) w (one i .0)) (member-part r _ (i .before .loop .q .now) w (one i .1))
+    c .record-alike .ensures ∙ ap₂ alikeMember (member-part r _ (i .before .loop .p .now) w (one i .0)) (member-part r _ (i .before .loop .q .now) w (one i .1))
 
 sub-p : tie.Need-sub-p Inv-loop μ-loop
 sub-p c = one (c .before .before .before .before) .0
