@@ -144,6 +144,13 @@
    half-written table may well be a well-formed one: after a reset do not go on with the words, but read the last image and
    audit it. An image has no checksum: where the place it is kept may lose bytes, add one.
 
+   Check a copy, after a controller swap for one. Lend the old controller's table and the new one's to ring_alike, as whole
+   slices, of equal length, as later calls get them; an image is read into such a slice first. 1: the nine calls that ONE RING
+   names, the same ones made on both from now on, answer the same on both. Step counts may differ, which words and images
+   show: take both readings of a shelf's from the same table. 0: r, the members, or some member's predecessor, pending,
+   candidate or list differ; the words, by the names below, show where. A call that one of the two has had since the copy may
+   be the cause.
+
 
    CALLING
 
@@ -416,8 +423,17 @@ struct ring_answer ring_audit(const uint32_t *table, size_t words);
 /* The audit, and one finding a member, in order; findings past the members stay. values: as ring_audit. Refused: 1, 10. */
 struct ring_answer ring_findings(const uint32_t *table, size_t words, struct ring_finding *findings, size_t count);
 
-/* Are two tables equal in r, in the members' identifiers and in each member's first entry? Nothing else is compared.
-   values: 1 yes, 0 no. Nothing is written. Refused: 1, for either. */
+/* Are two tables equal in r, in the members' identifiers, and in each member's predecessor, pending, candidate and whole
+   list? Step counts are not compared, nor words after the last record. values: 1 yes, 0 no. Nothing is written. Refused: 1,
+   for either.
+   Yes, of slices of equal length, lent so to every later call: every sequence of the nine calls that ONE RING names, made on
+   both tables, sound or not, with nothing else written between, gets the same answers on both, one by one, and ring_alike
+   says yes again after it. So after each such sequence ring_findings (answer and findings), ring_held and ring_principal
+   answer the same on both, and ring_image_write writes the same number of bytes, which differ at most in step counts. The
+   lengths are to be equal because 5 depends on them: a join may be refused for want of words in one slice and accepted in a
+   longer one.
+   No: the tables differ in one of these. There need not be a sequence that tells them apart: on sound tables a member may
+   have one or another dead candidate pending, if nobody can join as either before its next step forgets it. */
 struct ring_answer ring_alike(const uint32_t *a, size_t a_words, const uint32_t *b, size_t b_words);
 
 /* The take-over choice of a shelf that makes a stabilize step by messages, without a table: own is its identifier, h its

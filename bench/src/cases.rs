@@ -276,9 +276,16 @@ impl Case {
             }
             image
         };
+        let mut other = table.clone();
+        if call == Call::Alike {
+            // Each count differs, so that a comparison of whole records would end at the first.
+            for k in 1..=count {
+                other[at(k) - 1] = k as u32;
+            }
+        }
         Case {
-            other: table.clone(),
             table,
+            other,
             ids,
             #[cfg(feature = "whole")]
             keys,

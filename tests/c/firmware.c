@@ -1,9 +1,9 @@
 /* A firmware main loop in small: it starts a ring, lets shelves join, stabilize and leave, settles the ring after churn, tries a join again that
    was declined behind a dead neighbour, pulls neighbouring shelves from a ring with verdict 2, saves and restores the table, looks keys up, and
-   asks which keys a shelf holds, whether it is a principal, how stale the lists are and which shelf does not stabilize. Every call of
-   include/ring.h is used, and each answer is compared with what documents 01 and 02 say: document 01's calls here, document 02's requests in
-   requests.c. The first functions are what the header tells one to do: a member's turn, a join, a loss, a reading of a step count. Exit status 0,
-   and 'firmware: N checks, 0 wrong' on standard output. */
+   asks which keys a shelf holds, whether it is a principal, how stale the lists are, which shelf does not stabilize, and whether a copy is alike.
+   Every call of include/ring.h is used, and each answer is compared with what documents 01 and 02 say: document 01's calls here, document 02's
+   requests in requests.c and requests_07.c. The first functions are what the header tells one to do: a member's turn, a join, a loss, a reading of a
+   step count. Exit status 0, and 'firmware: N checks, 0 wrong' on standard output. */
 
 #include "firmware.h"
 #include "check.h"
@@ -103,6 +103,13 @@ size_t screen(const uint32_t *table, size_t words, const uint32_t *keys, size_t 
             }
     }
     return all;
+}
+
+/* So many identifiers or keys, from 0 on, this far apart. */
+void count_up(uint32_t *ids, size_t count, uint32_t gap)
+{
+    size_t i;
+    for (i = 0; i < count; i++) ids[i] = gap * (uint32_t)i;
 }
 
 /* Asks each member whether it is a principal. Returns how many are, or one more than there can be members where the audit counts another number,
@@ -338,5 +345,6 @@ int main(void)
     settling(table);
     passed_over(table);
     counted_by_shelf(table);
+    finer_alike(table);
     return closing_line("firmware");
 }

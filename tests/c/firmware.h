@@ -1,4 +1,4 @@
-/* What the two files of the firmware loop share: what it does with a ring, in firmware.c, and document 02's requests, in requests.c. */
+/* What the files of the firmware loop share: what it does with a ring, in firmware.c, and document 02's requests, in requests.c and requests_07.c. */
 
 #ifndef FIRMWARE_H
 #define FIRMWARE_H
@@ -11,6 +11,7 @@ uint32_t join_anywhere(uint32_t *table, size_t words, uint32_t j);
 uint32_t report_loss(uint32_t *table, size_t words, uint32_t n);
 uint32_t place_of(const uint32_t *table, uint32_t n);
 uint32_t steps_of(const uint32_t *table, uint32_t n);
+void count_up(uint32_t *ids, size_t count, uint32_t gap);
 size_t screen(const uint32_t *table, size_t words, const uint32_t *keys, size_t count);
 uint32_t principals(const uint32_t *table, size_t words);
 
@@ -22,5 +23,6 @@ void withdrawals(void);
 void settling(const uint32_t *table);
 void passed_over(const uint32_t *table);
 void counted_by_shelf(const uint32_t *table);
+void finer_alike(const uint32_t *table);
 
 #endif

@@ -1,21 +1,14 @@
-/* Document 02's requests, a function each: what the firmware loop asks of the settled ring of 104 shelves, and of rings of its own. */
+/* Document 02's requests, a function each, Req 01 to Req 06: what the firmware loop asks of the settled ring of 104 shelves, and of rings of its own.
+   requests_07.c has the later ones. */
 
 #include "firmware.h"
 #include "check.h"
 #include "layout.h"
 
-/* Tables to try things on and to compare with; many identifiers or keys; an image. */
+/* Tables to try things on and to compare with; many identifiers or keys. */
 static uint32_t other[RING_TABLE_WORDS_MOST], kept[RING_TABLE_WORDS_MOST], many[100000];
-static uint8_t image[RING_IMAGE_BYTES_MOST];
 static const size_t words = RING_TABLE_WORDS_MOST;
 static const uint32_t ids[] = {10, 20, 30, 40}, six[] = {10, 20, 30, 40, 50, 60};
-
-/* The first of many, from 0 on, this far apart. */
-static void count_up(size_t count, uint32_t gap)
-{
-    size_t i;
-    for (i = 0; i < count; i++) many[i] = gap * (uint32_t)i;
-}
 
 /* Req 01: which keys a shelf holds. On the settled ring each key has one holder, and it is the owner that is found from every shelf. */
 void held_keys(const uint32_t *table)
@@ -36,7 +29,7 @@ void held_keys(const uint32_t *table)
     expect_runs("equal keys", ring_held(table, words, 20, equal, 3), RING_KEYS_NOT_RISING, 0, 0, 0, 0, 0);
     expect_runs("falling keys", ring_held(table, words, 20, falling, 3), RING_KEYS_NOT_RISING, 0, 0, 0, 0, 0);
     expect_runs("the rest rises", ring_held(table, words, 25, falling + 1, 2), RING_OK, 1, 1, 1, 0, 0);
-    count_up(100000, 1);
+    count_up(many, 100000, 1);
     expect_runs("many keys", ring_held(table, words, 20, many, 100000), RING_OK, 2, 1694, 100000, 0, 21);
     expect_true("each key has one holder, its owner", screen(table, words, keys, 12) == 12);
     expect_same("held writes nothing", kept, table);
@@ -61,7 +54,7 @@ void principal_test(void)
     const uint32_t falling[] = {9, 8};
     uint32_t lone[RING_TABLE_WORDS(2, 1)], none[RING_TABLE_WORDS(8, 0)];
     size_t i;
-    count_up(256, 1);
+    count_up(many, 256, 1);
     expect("a full ring", ring_new(other, words, 8, many, 256), RING_OK, 1, 256, 0, 0, 0);
     expect("no pair skips 0", ring_principal(other, words, 0), RING_OK, 2, 1, 2048, 0, 0);
     expect("nor 255", ring_principal(other, words, 255), RING_OK, 2, 1, 2048, 0, 0);
@@ -149,7 +142,7 @@ void join_declined(const uint32_t *table)
     expect_true("the same by itself", join_anywhere(kept, words, 15) == RING_OK);
     expect("sound with 15", ring_audit(kept, words), RING_OK, 4, 5, 3, 4, RING_VERDICT_SOUND);
 
-    count_up(256, 4);
+    count_up(many, 256, 4);
     expect("256 shelves", ring_new(other, words, 2, many, 256), RING_OK, 1, 256, 0, 0, 0);
     expect("12 is lost", ring_fail(other, words, 12), RING_OK, 1, 255, 0, 0, 0);
     expect("17 joins", ring_join(other, words, 17, 16), RING_OK, 1, 256, 0, 0, 0);
@@ -191,7 +184,7 @@ void withdrawals(void)
     expect("no other", ring_leave(other, words, 50), RING_TOO_FEW_PRINCIPALS, 0, 0, 0, 0, 0);
 
     /* Seven neighbours of a full ring of r = 8, and the eighth; then a full ring in which only the highest shelf's last entry is old. */
-    count_up(256, 4);
+    count_up(many, 256, 4);
     expect("a full ring of r = 8", ring_new(other, words, 8, many, 256), RING_OK, 1, 256, 0, 0, 0);
     for (gone = 0; gone < 7; gone++)
         if (ring_leave(other, words, many[(252 + gone) % 256]).values[0] != 255 - gone) break;
@@ -300,182 +293,4 @@ void passed_over(const uint32_t *table)
     expect_true("the list of 20 begins with 51", record_at(other, 1)[RING_LIST] == 51);
     expect("20 passes it over", ring_lookup(other, words, 20, 52), RING_OK, 4, 52, 20, 0, 1);
     expect("the ring is sound", ring_audit(other, words), RING_OK, 4, 6, 6, 6, RING_VERDICT_SOUND);
-}
-
-/* Are these the step counts of the members, in order, and no others? The header's word is 0 beside them. */
-#define COUNTS(...) (const uint32_t[]){__VA_ARGS__}, sizeof((const uint32_t[]){__VA_ARGS__}) / sizeof(uint32_t)
-static int counts_are(const uint32_t *table, const uint32_t *counts, size_t count)
-{
-    size_t place;
-    if (table[RING_MEMBERS] != count) return 0;
-    for (place = 0; place < table[RING_MEMBERS]; place++)
-        if (table[RING_STEPS(table[RING_R], place)] != counts[place]) return 0;
-    return table[RING_ZERO] == 0;
-}
-
-/* Has each member's step count grown by at least and at most so many? */
-static int each_grew(const uint32_t *before, const uint32_t *after, uint32_t least, uint32_t most)
-{
-    size_t place;
-    for (place = 0; place < before[RING_MEMBERS]; place++) {
-        const size_t at = RING_STEPS(before[RING_R], place);
-        if (after[at] - before[at] < least || after[at] - before[at] > most) return 0;
-    }
-    return after[RING_ZERO] == 0;
-}
-
-/* Tables and images of layout 1, which had one step count, in the header. Two of its tables are well-formed by chance. */
-static void older_layout(void)
-{
-    const uint32_t one[] = {1, 1, 0, 5, 5, 0, 0, 5, 77}, two[] = {1, 2, 0, 5, 9, 0, 0, 9, 9, 7, 0, 0, 0, 3, 4};
-    const uint32_t ideal[] = {1, 2, 0, 5, 9, 0, 0, 9, 9, 5, 0, 0, 5, 0, 0}, counted[] = {1, 1, 1, 5, 5, 0, 0, 5, 77};
-    const uint8_t five[] = {1, 0, 7, 1, 0, 1, 0, 0, 0, 0, 2, 0, 17, 0, 0, 0, 5, 0, 0, 0, 5, 0, 0, 0, 0, 0, 0, 0, 0, 5, 3, 0, 0};
-    const uint8_t none[] = {1, 0, 7, 1, 0, 0, 0, 0, 0, 0, 3, 0, 0}, none_counted[] = {1, 0, 7, 1, 0, 0, 0, 0, 0, 5, 3, 0, 0};
-    expect("one shelf, and a word of nobody's", ring_audit(one, 9), RING_OK, 4, 1, 1, 1, RING_VERDICT_NOT_SOUND);
-    expect_true("which is a step count now", steps_of(one, 5) == 77);
-    expect("without that word", ring_audit(one, 8), RING_NOT_WELL_FORMED, 0, 0, 0, 0, 0);
-    expect("5 and 9", ring_audit(two, 15), RING_OK, 4, 2, 1, 0, RING_VERDICT_NOT_SOUND);
-    expect_true("are 5 and 7", id_at(two, 0) == 5 && id_at(two, 1) == 7 && counts_are(two, COUNTS(9, 4)));
-    expect("an ideal one", ring_audit(ideal, 15), RING_NOT_WELL_FORMED, 0, 0, 0, 0, 0);
-    expect("one with a step", ring_audit(counted, 9), RING_NOT_WELL_FORMED, 0, 0, 0, 0, 0);
-    memcpy(kept, other, sizeof kept);
-    expect("an image with a shelf", ring_image_read(other, words, five, sizeof five), RING_NO_IMAGE, 0, 0, 0, 0, 0);
-    expect("its second field", ring_image_field(five, sizeof five, IMAGE_MEMBERS), RING_NO_IMAGE, 0, 0, 0, 0, 0);
-    expect("one without, but with steps", ring_image_read(other, words, none_counted, sizeof none_counted), RING_NO_IMAGE, 0, 0, 0, 0, 0);
-    expect_same("nothing is read", kept, other);
-    expect("one without either", ring_image_read(other, words, none, sizeof none), RING_OK, 1, 0, 0, 0, 0);
-}
-
-/* Again, look and done count for the shelf that steps, and nothing else does; records that move keep their counts; a shelf that joins again starts
-   at 0; the largest number stays. Leaves 20, 22, 25, 30 and 40 in other, with the counts 2, 1, 4294967295, 0 and 1. */
-static void own_steps(void)
-{
-    memset(other, 255, sizeof other);
-    expect("new", ring_new(other, words, 2, ids, 4), RING_OK, 1, 4, 0, 0, 0);
-    expect("25 joins", ring_join(other, words, 25, 20), RING_OK, 1, 5, 0, 0, 0);
-    expect_true("all begin at 0", counts_are(other, COUNTS(0, 0, 0, 0, 0)));
-    expect("25 is done", ring_stabilize(other, words, 25), RING_OK, 2, RING_DONE, 30, 0, 0);
-    expect_true("by a step of its own", counts_are(other, COUNTS(0, 0, 1, 0, 0)));
-    expect("a notice is no step", ring_rectify(other, words, 30, 25), RING_OK, 1, 1, 0, 0, 0);
-    expect("20 looks at 25", ring_stabilize(other, words, 20), RING_OK, 2, RING_LOOK, 25, 0, 0);
-    expect_true("which counts", counts_are(other, COUNTS(0, 1, 1, 0, 0)));
-    expect("and is done", ring_stabilize(other, words, 20), RING_OK, 2, RING_DONE, 25, 0, 0);
-    expect("10 goes", ring_leave(other, words, 10), RING_OK, 1, 4, 0, 0, 0);
-    expect_true("the others keep theirs", counts_are(other, COUNTS(2, 1, 0, 0)));
-    expect("40 drops it", ring_stabilize(other, words, 40), RING_OK, 1, RING_AGAIN, 0, 0, 0);
-    expect("22 joins between them", ring_join(other, words, 22, 20), RING_OK, 1, 5, 0, 0, 0);
-    expect_true("and they keep theirs", counts_are(other, COUNTS(2, 0, 1, 0, 1)));
-    memcpy(kept, other, sizeof kept);
-    expect("a step of no member", ring_stabilize(other, words, 26), RING_NO_MEMBER, 0, 0, 0, 0, 0);
-    expect("a step on no table", ring_stabilize(other, RING_TABLE_WORDS(2, 5) - 1, 25), RING_NOT_WELL_FORMED, 0, 0, 0, 0, 0);
-    expect("a member's join", ring_join(other, words, 25, 20), RING_ALREADY_MEMBER, 0, 0, 0, 0, 0);
-    expect("a settle without a round", ring_settle(other, words, 0), RING_OK, 3, 0, RING_VERDICT_SOUND, 0, 0);
-    expect("a lookup", ring_lookup(other, words, 40, 25), RING_OK, 4, 25, 20, 1, 0);
-    expect_same("count nothing", kept, other);
-    expect("25 is lost", ring_fail(other, words, 25), RING_OK, 1, 4, 0, 0, 0);
-    expect("22 drops it", ring_stabilize(other, words, 22), RING_OK, 1, RING_AGAIN, 0, 0, 0);
-    expect("25 joins again", ring_join(other, words, 25, 22), RING_OK, 1, 5, 0, 0, 0);
-    expect_true("and starts at 0", counts_are(other, COUNTS(2, 1, 0, 0, 1)));
-    *steps_at(other, 2) = 4294967294u;
-    expect("a step to the largest number", ring_stabilize(other, words, 25), RING_OK, 2, RING_DONE, 30, 0, 0);
-    expect_true("counts", counts_are(other, COUNTS(2, 1, 4294967295u, 0, 1)));
-    expect("the next is made", ring_stabilize(other, words, 25), RING_OK, 2, RING_DONE, 30, 0, 0);
-    expect_true("and the count stays", counts_are(other, COUNTS(2, 1, 4294967295u, 0, 1)));
-}
-
-/* The image of that table has the counts. The 0 of its first field is judged by a whole reading, and not where the field is handed out. In the
-   header another number makes the table none; new makes it 0, and all counts with it. */
-static void header_zero(void)
-{
-    const size_t bytes = RING_IMAGE_BYTES(2, 5);
-    size_t i;
-    memset(kept, 255, sizeof kept), no_members(kept, 2);
-    expect("an image", ring_image_write(other, words, image, sizeof image), RING_OK, 1, (uint32_t)bytes, 0, 0, 0);
-    expect("read", ring_image_read(kept, words, image, bytes), RING_OK, 1, 5, 0, 0, 0);
-    expect_true("has the counts", counts_are(kept, COUNTS(2, 1, 4294967295u, 0, 1)));
-    *steps_at(kept, 1) = 7;
-    expect("alike with another", ring_alike(kept, words, other, words), RING_OK, 1, 1, 0, 0, 0);
-    for (i = IMAGE_MEMBERS - 4; i < IMAGE_MEMBERS; i++) {
-        image[i] = 1;
-        expect("another number there", ring_image_read(kept, words, image, bytes), RING_NO_IMAGE, 0, 0, 0, 0, 0);
-        expect("in the field", ring_image_field(image, bytes, 0), RING_OK, 4, RING_TAG_TABLE, FIELD_HEAD, FIRST_LENGTH, IMAGE_MEMBERS);
-        image[i] = 0;
-    }
-    expect_true("reads nothing", counts_are(kept, COUNTS(2, 7, 4294967295u, 0, 1)));
-    expect("with 0 again", ring_image_read(kept, words, image, bytes), RING_OK, 1, 5, 0, 0, 0);
-
-    other[RING_ZERO] = 4294967295u;
-    expect("the largest number in the header", ring_audit(other, words), RING_NOT_WELL_FORMED, 0, 0, 0, 0, 0);
-    other[RING_ZERO] = 1;
-    memcpy(kept, other, sizeof kept);
-    expect("1 there", ring_audit(other, words), RING_NOT_WELL_FORMED, 0, 0, 0, 0, 0);
-    expect("no step of it", ring_stabilize(other, words, 25), RING_NOT_WELL_FORMED, 0, 0, 0, 0, 0);
-    expect("no round of it", ring_round(other, words), RING_NOT_WELL_FORMED, 0, 0, 0, 0, 0);
-    expect("no loss", ring_fail(other, words, 25), RING_NOT_WELL_FORMED, 0, 0, 0, 0, 0);
-    expect("no image of it", ring_image_write(other, words, image, sizeof image), RING_NOT_WELL_FORMED, 0, 0, 0, 0, 0);
-    expect_same("it stays", kept, other);
-    expect("new again", ring_new(other, words, 2, ids, 4), RING_OK, 1, 4, 0, 0, 0);
-    expect_true("all at 0 again", counts_are(other, COUNTS(0, 0, 0, 0)));
-}
-
-/* Every second shelf of the settled ring goes, and 25 awaits the lost 27. In a round it takes r + 2 steps, the others drop an entry, look and are
-   done; settle's second round is one step each. The largest number stays in rounds too. */
-static void steps_of_rounds(const uint32_t *table)
-{
-    struct ring_answer a;
-    size_t i;
-    memcpy(other, table, sizeof other);
-    for (i = 0; i < 52; i++) ring_leave(other, words, id_at(other, i));
-    set_pending(other, 0, 1, 27);
-    memcpy(kept, other, sizeof kept);
-    expect("a round", ring_round(other, words), RING_OK, 1, RING_VERDICT_SOUND, 0, 0, 0);
-    expect_true("1 to r + 2 steps a shelf", each_grew(kept, other, 1, 4));
-    expect_true("r + 2 of 25, three of the last", steps_of(other, 25) - steps_of(kept, 25) == 4 && steps_of(other, 1693) - steps_of(kept, 1693) == 3);
-    memcpy(other, kept, sizeof other);
-    a = ring_settle(other, words, 255);
-    expect("a settle of two rounds", a, RING_OK, 3, 2, RING_VERDICT_IDEAL, 52, 0);
-    expect_true("as many as rounds at least, r + 2 times that at most", each_grew(kept, other, a.values[0], 4 * a.values[0]));
-    ring_new(other, words, 2, ids, 4);
-    for (i = 0; i < 4; i++) *steps_at(other, i) = 4294967292u + (uint32_t)i;
-    expect("two rounds", ring_round(other, words), RING_OK, 1, RING_VERDICT_IDEAL, 0, 0, 0);
-    expect("of four shelves", ring_round(other, words), RING_OK, 1, RING_VERDICT_IDEAL, 0, 0, 0);
-    expect_true("stop there", counts_are(other, COUNTS(4294967294u, 4294967295u, 4294967295u, 4294967295u)));
-}
-
-/* A loss frees r + 5 words, and a join needs them; the last record that the longest table has room for. */
-static void words_of_records(void)
-{
-    size_t i;
-    memset(other, 255, sizeof other), ring_new(other, words, 2, ids, 4);
-    *steps_at(other, 3) = 9;
-    expect("20 is lost", ring_fail(other, words, 20), RING_OK, 1, 3, 0, 0, 0);
-    for (i = 3 + 3 * 7; i < 3 + 4 * 7 && other[i] == 0;) i++;
-    expect_true("seven words become 0, and no more", i == 3 + 4 * 7 && other[i] == 4294967295u && other[3 + 3 * 7 - 1] == 9);
-    memset(other, 255, sizeof other), ring_new(other, words, 2, ids, 4);
-    expect("six words after the last record", ring_join(other, 3 + 4 * 7 + 6, 25, 20), RING_NO_ROOM, 0, 0, 0, 0, 0);
-    expect("seven", ring_join(other, 3 + 4 * 7 + 7, 25, 20), RING_OK, 1, 5, 0, 0, 0);
-    expect_true("and no more are taken", other[3 + 5 * 7 - 1] == 0 && other[3 + 5 * 7] == 4294967295u);
-    count_up(255, 4), ring_new(other, words, 8, many, 255);
-    expect("no room for the last of 256", ring_join(other, 3330, 1017, 1016), RING_NO_ROOM, 0, 0, 0, 0, 0);
-    expect("room for it", ring_join(other, 3331, 1017, 1016), RING_OK, 1, 256, 0, 0, 0);
-}
-
-/* Req 07: steps counted by shelf. Two readings tell which shelf does not stabilize: all but 1007 take their turns, while 22 joins below it. */
-void counted_by_shelf(const uint32_t *table)
-{
-    const uint32_t first = steps_of(table, 1007);
-    size_t i, undone = 0, same = 0;
-    own_steps();
-    header_zero();
-    older_layout();
-    steps_of_rounds(table);
-    words_of_records();
-
-    memcpy(other, table, sizeof other);
-    expect("22 joins", ring_join(other, words, 22, 20), RING_OK, 1, 105, 0, 0, 0);
-    for (i = 0; i < 105; i++) undone += id_at(other, i) != 1007 && turn_of(other, words, (uint32_t)i) == 0;
-    for (i = 0; i < 104; i++) same += steps_of(other, id_at(table, i)) == steps_of(table, id_at(table, i));
-    expect_true("one shelf has not stabilized", undone == 0 && same == 1 && steps_of(other, 22) > 0);
-    expect_true("it is 1007", steps_of(other, 1007) == first);
-    expect_true("its turn is a step", turn_of(other, words, place_of(other, 1007)) == 1 && steps_of(other, 1007) == first + 1);
 }

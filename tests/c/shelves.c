@@ -1,6 +1,6 @@
 /* A ring of twelve shelves, as one writes it from include/ring.h alone, and nothing else of the project: joins, a withdrawal, losses, turns, step
-   counts, settle, held keys, images and findings. It compiles as C99, C11 and C++. Exit status 0, and 'shelves: as the header says' on standard
-   output. */
+   counts, settle, held keys, images, a copy compared, and findings. It compiles as C99, C11 and C++. Exit status 0, and 'shelves: as the header says'
+   on standard output. */
 
 #include "ring.h"
 #include <stdio.h>
@@ -131,6 +131,11 @@ int main(void)
     check(ring_image_read(copy, WORDS, image, bytes).number == RING_OK, "read");
     check(ring_alike(table, WORDS, copy, WORDS).values[0] == 1, "alike");
     check(memcmp(table, copy, RING_TABLE_WORDS(table[RING_R], table[RING_MEMBERS]) * sizeof *table) == 0, "word for word");
+    check(ring_stabilize(copy, WORDS, 550).values[0] == RING_DONE && ring_alike(table, WORDS, copy, WORDS).values[0] == 1, "alike after a step more");
+    a = ring_rectify(copy, WORDS, 550, 549);
+    check(a.number == RING_OK && a.values[0] == 1, "a notice that only the copy gets");
+    a = ring_alike(table, WORDS, copy, WORDS);
+    check(a.number == RING_OK && a.values[0] == 0, "another predecessor is not alike");
 
     a = ring_findings(table, WORDS, findings, RING_MEMBERS_MOST);
     check(a.number == RING_OK, "findings");

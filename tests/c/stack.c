@@ -10,7 +10,7 @@
 #include <string.h>
 #include <ucontext.h>
 
-enum { STACK = 1 << 16, PAINT = 0xa5, CALLS = 18, HELD = 14, PRINCIPAL = 15, ROUND = 16, SETTLE = 17, KEYS = 100000 };
+enum { STACK = 1 << 16, PAINT = 0xa5, CALLS = 18, ALIKE = 9, HELD = 14, PRINCIPAL = 15, ROUND = 16, SETTLE = 17, KEYS = 100000 };
 
 static const char *const names[CALLS] = {"ring_new",        "ring_join",        "ring_stabilize",  "ring_rectify",    "ring_fail",
                                          "ring_leave",      "ring_lookup",      "ring_audit",      "ring_findings",   "ring_alike",
@@ -46,6 +46,7 @@ static size_t deepest[CALLS];
 static uint32_t met[CALLS], replies; /* the numbers answered; the replies of stabilize: again, look, done */
 static uint32_t held_runs;           /* one run, two runs */
 static uint32_t principals;          /* not a principal, a principal */
+static uint32_t alikes;              /* no, yes */
 static uint32_t verdicts;            /* of a round: 1, 2 */
 static uint32_t most_rounds;         /* that a settle ran */
 
@@ -75,7 +76,7 @@ static struct ring_answer make(void)
     case 6: return ring_lookup(table, words, a, b);
     case 7: return ring_audit(table, words);
     case 8: return ring_findings(table, words, findings, count);
-    case 9: return ring_alike(table, words, other, words);
+    case ALIKE: return ring_alike(table, words, other, words);
     case 10: return ring_take_over(a, b, r, ids, count, ids, count);
     case 11: return ring_image_write(table, words, image, bytes);
     case 12: return ring_image_read(other, words, image, bytes);
@@ -130,6 +131,7 @@ static void run(int c)
     if (c == 2 && answer.number == RING_OK) replies |= BIT(answer.values[0]);
     if (c == HELD && runs.number == RING_OK) held_runs |= BIT(runs.runs);
     if (c == PRINCIPAL && answer.number == RING_OK) principals |= BIT(answer.values[0]);
+    if (c == ALIKE && answer.number == RING_OK) alikes |= BIT(answer.values[0]);
     if (c == ROUND && answer.number == RING_OK) verdicts |= BIT(answer.values[0]);
     if (c == SETTLE && answer.number == RING_OK && answer.values[0] > most_rounds) most_rounds = answer.values[0];
 }
@@ -175,6 +177,17 @@ static void settled(uint32_t of_r, size_t members, uint32_t gap)
     run(SETTLE);
 }
 
+/* Alike of table and of other, which has one word of the record at a place another, each in turn. */
+static void unlike(size_t place)
+{
+    uint32_t *const record = record_at(other, place);
+    size_t i;
+    for (i = 0; i < RING_RECORD_WORDS(other[RING_R]); i++) {
+        record[i]++, run(ALIKE);
+        record[i]--;
+    }
+}
+
 /* Every call on a ring of so many members; ends with a table that is none. */
 static void every(uint32_t of_r, size_t members)
 {
@@ -191,7 +204,8 @@ static void every(uint32_t of_r, size_t members)
     bytes = sizeof image, run(11);
     bytes = RING_IMAGE_BYTES(of_r, members), run(12);
     words = RING_HEADER_WORDS, run(12);
-    words = RING_TABLE_WORDS_MOST, run(9);
+    words = RING_TABLE_WORDS_MOST, run(ALIKE);
+    unlike(0), unlike(members - 1);
     for (at = 0; at <= bytes; at += at == 0 ? IMAGE_MEMBERS : field) run(13);
     at = 1, run(13);
     bytes--, run(12);
@@ -268,6 +282,10 @@ int main(void)
     }
     if (principals != (BIT(0) | BIT(1))) {
         printf("ring_principal: the replies %x were met\n", principals);
+        missing = 1;
+    }
+    if (alikes != (BIT(0) | BIT(1))) {
+        printf("ring_alike: the replies %x were met\n", alikes);
         missing = 1;
     }
     if (verdicts != (BIT(1) | BIT(2)) || most_rounds < 3) {

@@ -230,16 +230,31 @@ pub fn audit_early(words: &[u32]) -> Answer {
     audit_by(words, |t| t.count_principals_early())
 }
 
+/// Are all words of the records equal but the last, a step count? Each r has its own copy of this, which knows the width; each of
+/// the two parts is short enough to be compared without a call of `bcmp`.
+fn records_alike<const WIDTH: usize>(a: &[u32], b: &[u32]) -> bool {
+    let (a, b) = (a.as_chunks::<WIDTH>().0, b.as_chunks::<WIDTH>().0);
+    a.iter()
+        .zip(b)
+        .all(|(x, y)| x[..4] == y[..4] && x[4..WIDTH - 1] == y[4..WIDTH - 1])
+}
+
 #[inline(never)]
 pub fn alike(a: &[u32], b: &[u32]) -> Answer {
     let (Some(a), Some(b)) = (Table::open(a), Table::open(b)) else {
         return declined(1);
     };
-    let alike = a.r == b.r
-        && a.members == b.members
-        && a.records()
-            .zip(b.records())
-            .all(|(x, y)| x[0] == y[0] && x[4] == y[4]);
+    let by_width = match a.r {
+        1 => records_alike::<6>,
+        2 => records_alike::<7>,
+        3 => records_alike::<8>,
+        4 => records_alike::<9>,
+        5 => records_alike::<10>,
+        6 => records_alike::<11>,
+        7 => records_alike::<12>,
+        _ => records_alike::<13>,
+    };
+    let alike = a.r == b.r && a.members == b.members && by_width(a.records, b.records);
     reply([u32::from(alike)])
 }
 

@@ -1,6 +1,7 @@
 //! One call on both sides, with the same buffers between the same guards.
 //! Answers and whole buffers, guards too, must be equal afterwards.
 
+mod alike;
 mod alone;
 mod counts;
 mod find;
@@ -8,6 +9,7 @@ mod ideal;
 mod join;
 mod lent;
 mod lone;
+mod pairs;
 mod parts;
 mod passed;
 mod principal;
@@ -19,6 +21,7 @@ mod withdrawals;
 use crate::calls::{Calls, REFERENCE};
 use crate::random::mix;
 use crate::reference::{Answer, Runs};
+use alike::Alikes;
 use alone::Alone;
 use counts::{Counts, Made};
 use find::Finds;
@@ -26,6 +29,7 @@ use ideal::Ideals;
 use join::Joins;
 use lent::{nothing, Lent};
 pub use lent::{Element, Piece};
+use pairs::Pairs;
 use parts::Parts;
 use passed::Passed;
 use principal::Principals;
@@ -158,6 +162,15 @@ const POSSIBLE: [&[usize]; CALLS] = [
     &[0, 9],
 ];
 
+/// Sorts the answer of a call by its number, and a few by their reply too.
+fn kind(name: &str, answer: &impl Reply) -> usize {
+    match (answer.number(), answer.sort(name)) {
+        (0, 0) => 0,
+        (0, reply) => 19 + reply as usize,
+        (number, _) => number as usize,
+    }
+}
+
 /// The comparisons made so far, and the side under test.
 pub struct Compare {
     under_test: &'static Calls,
@@ -174,6 +187,8 @@ pub struct Compare {
     finds: Finds,
     passed: Passed,
     step_counts: Counts,
+    alikes: Alikes,
+    pairs: Pairs,
     /// Tells each call on standard error before it is made.
     pub trace: bool,
 }
@@ -204,6 +219,8 @@ impl Compare {
             finds: Finds::new(),
             passed: Passed::new(),
             step_counts: Counts::new(),
+            alikes: Alikes::new(),
+            pairs: Pairs::new(),
             trace: false,
         }
     }
@@ -231,7 +248,9 @@ impl Compare {
         text += &format!("  turns: {}\n", self.turns.told());
         text += &format!("  find: {}\n", self.finds.told());
         text += &format!("  passed: {}\n", self.passed.told());
-        text + &format!("  counts: {}\n", self.step_counts.told())
+        text += &format!("  counts: {}\n", self.step_counts.told());
+        text += &format!("  alike: {}\n", self.alikes.told());
+        text + &format!("  pairs: {}\n", self.pairs.told())
     }
 
     /// A call with a number that it can give but never gave, or a shape that
@@ -256,23 +275,16 @@ impl Compare {
             ("find:", self.finds.never_met()),
             ("passed:", self.passed.never_met()),
             ("counts:", self.step_counts.never_met()),
+            ("alike:", self.alikes.never_met()),
+            ("pairs:", self.pairs.never_met()),
         ];
         let never = |(what, shape): &(_, Option<_>)| shape.map(|shape| format!("{what} {shape}"));
         let kinds = || {
             let lists = self.ideals.kinds_never_met().or(self.finds.kinds_never_met());
-            lists.or(self.step_counts.kinds_never_met())
+            let words = self.step_counts.kinds_never_met().or(self.alikes.kinds_never_met());
+            lists.or(words).or(self.pairs.kinds_never_met())
         };
         shapes.iter().find_map(never).or_else(kinds)
-    }
-
-    /// Sorts an answer by its number, and a few by their reply too.
-    fn count(&mut self, index: usize, answer: &impl Reply) {
-        let kind = match (answer.number(), answer.sort(NAMES[index])) {
-            (0, 0) => 0,
-            (0, reply) => 19 + reply as usize,
-            (number, _) => number as usize,
-        };
-        self.numbers[index][kind] += 1;
     }
 
     pub fn total(&self) -> u64 {
@@ -310,7 +322,7 @@ impl Compare {
         let kept =
             expected.number() == 0 || (a.slice() == first.slice() && b.slice() == second.slice());
         if equal && kept {
-            self.count(index, &expected);
+            self.numbers[index][kind(name, &expected)] += 1;
             return Ok(Outcome {
                 answer: expected,
                 first: a.slice().to_vec(),
@@ -395,18 +407,6 @@ impl Compare {
         keys: &Piece<u32>,
     ) -> Result<Outcome<u32, u32, Runs>> {
         self.on_table("held", &[n as u64], table, keys, |c, t, keys| (c.held)(t, n, keys))
-    }
-
-    pub fn alike(&mut self, a: &Piece<u32>, b: &Piece<u32>) -> Result<Outcome<u32, u32>> {
-        self.ask_parts(b.slice())?;
-        let outcome = self.on_table("alike", &[], a, b, |c, a, b| (c.alike)(a, b))?;
-        self.count_second(a, b, outcome.answer)?;
-        Ok(outcome)
-    }
-
-    /// Both slices are the same one.
-    pub fn alike_itself(&mut self, table: &Piece<u32>) -> Result<Outcome<u32, u32>> {
-        self.on_table("alike", &[], table, &nothing(), |c, t, _| (c.alike)(t, t))
     }
 
     pub fn take_over(

@@ -49,6 +49,18 @@ pub fn record(words: &[u32], id: u32) -> Option<&[u32]> {
     records(words).find(|record| record[ID] == id)
 }
 
+/// The place of the record that a word of a well-formed table belongs to, and the word's place in
+/// it; none of the header's words, nor of those after the last record.
+pub fn place_of(words: &[u32], at: usize) -> Option<(usize, usize)> {
+    let (r, n) = (words[R] as usize, words[COUNT] as usize);
+    (HEADER..size(r, n)).contains(&at).then(|| ((at - HEADER) / width(r), (at - HEADER) % width(r)))
+}
+
+/// How many bytes an image has.
+pub const fn image_size(r: usize, members: usize) -> usize {
+    field_at(r, members) + HEAD
+}
+
 /// The words after the last record of a well-formed table.
 pub fn rest(words: &[u32]) -> &[u32] {
     &words[size(words[R] as usize, words[COUNT] as usize)..]
@@ -62,6 +74,11 @@ pub fn list(record: &[u32]) -> &[u32] {
 /// The step count of a record.
 pub fn steps(record: &[u32]) -> u32 {
     record[record.len() - 1]
+}
+
+/// A record without its step count.
+pub fn uncounted(record: &[u32]) -> &[u32] {
+    &record[..record.len() - 1]
 }
 
 // A field of an image: its head is a tag and two bytes for the length of the contents, the
@@ -102,6 +119,15 @@ pub const fn field_at(r: usize, place: usize) -> usize {
 pub fn field_steps(image: &[u8], place: usize) -> u32 {
     let end = field_at(image_r(image), place + 1);
     u32::from_be_bytes([image[end - 4], image[end - 3], image[end - 2], image[end - 1]])
+}
+
+/// The bytes of an image with each member's step count 0.
+pub fn without_counts(mut image: Vec<u8>) -> Vec<u8> {
+    for place in 0..image_count(&image) {
+        let end = field_at(image_r(&image), place + 1);
+        image[end - 4..end].fill(0);
+    }
+    image
 }
 
 /// r as an image of `FIRST_STEPS` bytes or more says it.

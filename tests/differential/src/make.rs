@@ -2,11 +2,13 @@
 //! damaged.
 
 mod counts;
+mod pairs;
 mod sound;
 
 pub use counts::{
     count_apart, count_steps, count_to_the_end, counted, header_steps, older_image, older_table,
 };
+pub use pairs::{alike, another, untold};
 pub use sound::{cut_off, slowest, sound, stale, stalest, Ring};
 
 use crate::compare::Piece;

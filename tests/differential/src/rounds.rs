@@ -1,6 +1,7 @@
 //! The rounds of the differential test. Each has its own seed, so a round that
 //! finds a difference can be run again alone.
 
+mod alike;
 mod counts;
 mod find;
 mod held;
@@ -11,13 +12,14 @@ mod others;
 mod principal;
 mod settle;
 
+use alike::{alike, alike_alone, pairs};
 use counts::counts;
 use find::{find, full_find};
 use held::{held, held_calls};
 use ideal::{full_ideal, ideal};
 use images::{image, read_image};
 use join::join;
-use others::{alike, new, take_over};
+use others::{new, take_over};
 use principal::principal;
 use settle::{full_settling, settle_calls, settling};
 
@@ -32,7 +34,7 @@ type Result = std::result::Result<(), String>;
 type Round = fn(&mut Compare, &mut Random) -> Result;
 
 /// The kinds of rounds in turn.
-const KINDS: [(&str, Round); 22] = [
+const KINDS: [(&str, Round); 23] = [
     ("tiny", tiny),
     ("sound churn", sound_churn),
     ("broken", broken),
@@ -55,6 +57,7 @@ const KINDS: [(&str, Round); 22] = [
     ("settle", settling),
     ("find", find),
     ("counts", counts),
+    ("pairs", pairs),
 ];
 
 /// Runs one round; the error tells what differs and how to see it again.
@@ -80,7 +83,8 @@ pub fn alone(compare: &mut Compare, seed: u64, number: u64) -> Result {
     compare.alone(&mut random)?;
     compare.withdrawals(&mut random, false)?;
     compare.turns(&mut random, number % 200 == 7)?;
-    compare.passed(&mut random, number % 25 == 9)
+    compare.passed(&mut random, number % 25 == 9)?;
+    alike_alone(compare, &mut random, number % 100 == 11)
 }
 
 /// Lengths near the needed one.

@@ -2,6 +2,7 @@
 //! can be planted one at a time. Without a planted fault it stands in for the
 //! library when no archive is linked.
 
+mod alike;
 mod alone;
 mod calls;
 mod counts;
@@ -14,6 +15,7 @@ mod passed;
 mod principal;
 mod settle;
 
+pub use alike::*;
 pub use alone::ALONE;
 pub use calls::*;
 pub use faults::{plant, Fault, FAULTS};

@@ -1,7 +1,7 @@
 //! A table between guards that the library alone is called on. The reference makes
 //! no call; what must hold is read off the words that the library left.
 
-use super::{place, watched, Compare, Lent, Made, Piece, Result};
+use super::{place, watched, Compare, Lent, Made, Piece, Reply, Result};
 use crate::calls::Calls;
 use crate::layout::{records, ID};
 use crate::random::Random;
@@ -54,12 +54,12 @@ impl Lone {
     }
 
     /// A call, after which the step counts are held to their rule.
-    pub fn call(
+    pub fn call<R: Reply>(
         &mut self,
         name: &str,
         arguments: &[u32],
-        call: impl Fn(&Calls, &mut [u32]) -> Answer,
-    ) -> Result<Answer> {
+        call: impl FnOnce(&Calls, &mut [u32]) -> R,
+    ) -> Result<R> {
         if self.trace {
             eprintln!("{name} {arguments:?}\n  table {:?}", self.words());
         }
@@ -67,7 +67,7 @@ impl Lone {
         let (calls, slice) = (self.calls, self.lent.slice());
         let given = watched(place(name), || call(calls, slice));
         let first = arguments.first().copied().unwrap_or(0);
-        let made = Made { name, first, number: given.number, values: given.values };
+        let made = Made { name, first, number: given.number(), values: given.values() };
         match made.rule(&before, self.words()) {
             Ok(()) => Ok(given),
             Err(what) => {
@@ -82,7 +82,7 @@ impl Lone {
         &mut self,
         name: &str,
         arguments: &[u32],
-        call: impl Fn(&Calls, &mut [u32]) -> Answer,
+        call: impl FnOnce(&Calls, &mut [u32]) -> Answer,
     ) -> Result<[u32; 4]> {
         match self.call(name, arguments, call)? {
             Answer { number: 0, values, .. } => Ok(values),

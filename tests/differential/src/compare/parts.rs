@@ -72,7 +72,8 @@ impl Compare {
         format!(
             "keys parted on {} tables, {} owners found; principals counted on {} tables; \
              {} runs of the library alone; {} withdrawals from verdict 2; {} rounds held to \
-             their turns, {} settlings to their rounds; {} finds to the searches of their members",
+             their turns, {} settlings to their rounds; {} finds to the searches of their members; \
+             {} times alike asked of the library alone, {} pairs of tables with {} calls on each",
             self.parts.tables,
             self.parts.finds,
             self.principals.tables,
@@ -80,7 +81,10 @@ impl Compare {
             self.withdrawals.made,
             self.turns.rounds,
             self.turns.settlings,
-            self.passed.finds
+            self.passed.finds,
+            self.alikes.asked,
+            self.pairs.made,
+            self.pairs.calls
         )
     }
 

@@ -226,14 +226,22 @@ pub fn findings(table: &[u32], findings: &mut [Finding]) -> Answer {
     t.audit()
 }
 
+/// "Alike now means equal in r, members, predecessors, pending, candidates and whole lists;
+/// step counts don't matter."
 pub fn alike(a: &[u32], b: &[u32]) -> Answer {
     let (Some(a), Some(b)) = (Table::decode(a), Table::decode(b)) else {
         return decline(1);
     };
-    let shown = |t: &Table| -> Vec<(u32, u32)> {
-        t.members.iter().map(|m| (m.identifier, m.first_entry())).collect()
+    let same = |a: &Member, b: &Member| {
+        a.identifier == b.identifier
+            && a.predecessor == b.predecessor
+            && a.pending == b.pending
+            && a.candidate == b.candidate
+            && a.list == b.list
     };
-    accept(&[(a.r == b.r && shown(&a) == shown(&b)) as u32])
+    let members = a.members.len() == b.members.len()
+        && a.members.iter().zip(&b.members).all(|(a, b)| same(a, b));
+    accept(&[(a.r == b.r && members) as u32])
 }
 
 pub fn take_over(own: u32, h: u32, c: u32, h_list: &[u32], c_list: &[u32]) -> Answer {
@@ -394,5 +402,64 @@ mod verdicts {
         assert_eq!(leave(&mut table, 10), accept(&[4]));
         assert_eq!(leave(&mut table, 20), decline(6));
         assert_eq!(leave(&mut table, 30), decline(7));
+    }
+}
+
+#[cfg(test)]
+mod pairs {
+    use super::*;
+
+    /// Two tables that no list of calls tells apart, by their candidates: there is no room for
+    /// a shelf that joins.
+    #[test]
+    fn no_room() {
+        let of = |candidate: u32| [1, 2, 0, 0, 1, 0, 0, 1, 7, 1, 0, 1, candidate, 0, 9];
+        let (mut a, mut b) = (of(2), of(3));
+        assert_eq!(alike(&a, &b), accept(&[0]));
+        assert_eq!(join(&mut a, 2, 1), decline(5));
+        for t in [&mut a, &mut b] {
+            assert_eq!(stabilize(t, 1), accept(&[2, 0]));
+        }
+        assert_eq!(alike(&a, &b), accept(&[1]));
+    }
+
+    /// Two more: there is room, but 13 declines who would join before the dead first entry.
+    #[test]
+    fn room() {
+        let of = |candidate: u32| {
+            let mut words = vec![2, 3, 0, 0, 5, 1, candidate, 3, 4, 7, 4, 0, 0, 0, 5, 0, 8];
+            words.extend([5, 4, 0, 0, 0, 4, 9, 1, 2, 3, 4, 5, 6, 7]);
+            words
+        };
+        let (mut a, mut b) = (of(1), of(2));
+        assert_eq!(alike(&a, &b), accept(&[0]));
+        for j in [1, 2] {
+            assert_eq!([0, 4, 5].map(|p| join(&mut a, j, p)), [13, 4, 4].map(decline));
+        }
+        for t in [&mut a, &mut b] {
+            assert_eq!(stabilize(t, 0), accept(&[2, 3]));
+        }
+        assert_eq!(alike(&a, &b), accept(&[1]));
+    }
+
+    /// Step counts, words after the last record and lengths do not matter, all else does.
+    #[test]
+    fn each_word() {
+        let words = [1, 2, 0, 0, 1, 0, 0, 1, 7, 1, 0, 1, 2, 0, 9, 5, 6];
+        assert_eq!(alike(&words, &words[..15]), accept(&[1]));
+        for i in 0..words.len() {
+            let mut other = words;
+            // The higher identifier goes up, all else changes in its lowest bit.
+            other[i] = if i == 9 { 3 } else { words[i] ^ 1 };
+            let due = match i {
+                8 | 14.. => accept(&[1]),
+                // r = 0, three members, a header that counts, two equal identifiers, a candidate
+                // without pending, twice.
+                0..=3 | 6 | 11 => decline(1),
+                _ => accept(&[0]),
+            };
+            assert_eq!(alike(&words, &other), due, "word {i}");
+            assert_eq!(alike(&other, &words), due, "word {i}");
+        }
     }
 }

@@ -1,4 +1,4 @@
-//! The rounds of new, of the take-over choice and of two tables alike.
+//! The rounds of new and of the take-over choice.
 
 use super::*;
 
@@ -52,44 +52,6 @@ pub fn take_over(compare: &mut Compare, random: &mut Random) -> Result {
             Piece::cut(&words, if random.one_in(4) { 0 } else { count })
         });
         compare.take_over(own, h, c, &lists[0], &lists[1])?;
-    }
-    Ok(())
-}
-
-/// Two tables, equal but for one thing or two.
-pub fn alike(compare: &mut Compare, random: &mut Random) -> Result {
-    for _ in 0..40 {
-        let raw = make::well_formed(random, None);
-        let mut other = raw.clone();
-        let n = other.records.len();
-        let i = random.below(n.max(1));
-        match random.below(10) {
-            0 if n > 0 => other.records[i].steps = random.word(),
-            1 => {
-                other.r = random.range(1, 8) as u32;
-                for m in &mut other.records {
-                    m.list.resize(other.r as usize, 5);
-                }
-            }
-            2 if n > 0 => other.records[i].list[0] ^= 1 << random.below(32),
-            3 if n > 0 => *other.records[i].list.last_mut().unwrap() ^= 1,
-            4 if n > 0 => other.records[i].predecessor ^= 1,
-            5 if n > 0 => {
-                other.records[i].pending = 1;
-                other.records[i].candidate = random.word();
-            }
-            6 if n > 0 => other.records[n - 1].id = u32::MAX,
-            7 if n > 0 => {
-                other.records.remove(i);
-                other.count -= 1;
-            }
-            8 => other.steps = make::header_steps(random),
-            _ => {}
-        }
-        let a = make::with_room(random, &raw.words(), 9);
-        let b = make::with_room(random, &other.words(), 9);
-        compare.alike(&a, &b)?;
-        compare.alike(&b, &a)?;
     }
     Ok(())
 }

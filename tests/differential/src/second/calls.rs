@@ -120,7 +120,11 @@ pub(super) fn step_at(table: &mut [u32], i: usize) -> Answer {
         };
         answer = yes([0]);
     }
+    let stopped = counts::is_stopped(table, i, Fault::StoppedStep);
     counts::step(table, i, answer.values);
+    if stopped {
+        return yes([0]);
+    }
     answer
 }
 
@@ -139,7 +143,8 @@ pub(super) fn notice_at(table: &mut [u32], i: usize, q: u32) -> Answer {
     let o = offset(table, i) + 1;
     let (old, n) = (table[o], table[o - 1]);
     let dead = find(table, old).is_none() && !planted(Fault::RectifyAlive);
-    if dead || between(old, q, n) {
+    let stopped = counts::is_stopped(table, i, Fault::StoppedNotice);
+    if (dead || between(old, q, n)) && !stopped {
         table[o] = q;
         if planted(Fault::RectifyCounts) {
             counts::raise(table, i);
@@ -206,7 +211,8 @@ pub fn leave(table: &mut [u32], n: u32) -> Answer {
         })
         .count();
     let few = left <= table[0] as usize + planted(Fault::SevenSoon) as usize;
-    if dead && !(few && planted(Fault::SevenOverSix)) {
+    let stopped = counts::is_stopped(table, i, Fault::StoppedLeave);
+    if stopped || dead && !(few && planted(Fault::SevenOverSix)) {
         return no(6);
     }
     if few {
@@ -239,7 +245,8 @@ pub fn lookup(table: &[u32], n: u32, k: u32) -> Answer {
         } else {
             first_live(table, q)
         };
-        let Some(b) = next else {
+        let stopped = counts::is_stopped(table, q, Fault::StoppedFind);
+        let Some(b) = next.filter(|_| !stopped) else {
             return passed::eight(table, &walk);
         };
         walk.push(b);
@@ -304,30 +311,14 @@ pub fn findings(table: &[u32], findings: &mut [Finding]) -> Answer {
             principal: unskipped(table, id(table, i), None) as u32,
             moves,
         };
+        if counts::is_stopped(table, i, Fault::StoppedFinding) {
+            finding.moves = n as u32;
+        }
     }
     if findings.len() < n {
         return no(10);
     }
     report(table)
-}
-
-pub fn alike(a: &[u32], b: &[u32]) -> Answer {
-    let second = formed(b, Fault::HeaderAlikeSecond);
-    if !formed(a, Fault::HeaderAlike) || (!second && !planted(Fault::AlikeSecond)) {
-        return no(1);
-    }
-    if !second {
-        return yes([0]);
-    }
-    let mut same = (a[0] == b[0] || planted(Fault::AlikeR)) && a[1] == b[1];
-    if planted(Fault::AlikeSteps) {
-        same = same && counts::all(a) == counts::all(b);
-    }
-    for i in 0..size(a) {
-        same = same && id(a, i) == id(b, i);
-        same = same && (list(a, i)[0] == list(b, i)[0] || planted(Fault::AlikeFirst));
-    }
-    yes([same as u32])
 }
 
 pub fn take_over(own: u32, h: u32, c: u32, h_list: &[u32], c_list: &[u32]) -> Answer {

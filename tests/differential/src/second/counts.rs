@@ -8,6 +8,11 @@ pub(super) fn at(t: &[u32], i: usize) -> usize {
     offset(t, i + 1) - 1
 }
 
+/// Does a call stop short of a member whose count is at the largest word? By this fault alone.
+pub(super) fn is_stopped(t: &[u32], i: usize, fault: Fault) -> bool {
+    planted(fault) && t[at(t, i)] == u32::MAX
+}
+
 /// The counts by place.
 pub(super) fn all(t: &[u32]) -> Vec<u32> {
     (0..size(t)).map(|i| t[at(t, i)]).collect()

@@ -64,6 +64,9 @@ pub(super) fn ideal(t: &[u32]) -> bool {
     if planted(Fault::IdealCount) && counts::all(t).iter().any(|&count| count > 0) {
         return false;
     }
+    if planted(Fault::IdealRest) && t[end(t)..].iter().any(|&word| word > 0) {
+        return false;
+    }
     for k in 0..span(t) {
         due.rotate_left(1);
         for (i, &up) in due.iter().enumerate() {

@@ -47,6 +47,9 @@ pub fn image_write(table: &[u32], image: &mut [u8]) -> Answer {
         for (k, &word) in table[o + 3..][..(record - 12) / 4].iter().enumerate() {
             four(&mut at[12 + 4 * k..], word);
         }
+        if counts::is_stopped(table, i, Fault::StoppedBytes) {
+            four(&mut at[7..], 0);
+        }
         let count = record - 4..record;
         if planted(Fault::ImageLow) {
             at[count].reverse();
@@ -57,7 +60,8 @@ pub fn image_write(table: &[u32], image: &mut [u8]) -> Answer {
         }
     }
     image[total - 3..total].copy_from_slice(&[3, 0, 0]);
-    yes([total as u32])
+    let stopped = (0..n).filter(|&i| counts::is_stopped(table, i, Fault::StoppedImage)).count();
+    yes([(total - 4 * stopped) as u32])
 }
 
 fn is_image(image: &[u8]) -> bool {

@@ -131,7 +131,8 @@ pub fn join(table: &mut [u32], j: u32, p: u32) -> Answer {
     let most = if planted(Fault::JoinMost) { 255 } else { 256 };
     let room = table.len() - end(table);
     let needed = if planted(Fault::JoinRoom) { w + 1 } else { w };
-    let (full, short) = (size(table) >= most, room < needed);
+    let stopped = counts::is_stopped(table, by, Fault::StoppedJoin);
+    let (full, short) = (size(table) >= most, room < needed || stopped);
     if planted(Fault::JoinFourLate) && (full || short) {
         return no(5);
     }

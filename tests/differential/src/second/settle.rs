@@ -150,6 +150,7 @@ fn spared(table: &[u32], i: usize) -> bool {
         || (planted(Fault::RoundNoLastOfFull) && i == 255)
         || (planted(Fault::RoundSpared) && right())
         || (planted(Fault::RoundStops) && ideal(table))
+        || counts::is_stopped(table, i, Fault::StoppedTurn)
 }
 
 fn run_round(table: &mut [u32]) {
