@@ -95,6 +95,23 @@ inside-ends (mid h k) = (omega arith, omega arith)
 inside-ends (high h k) = (omega arith, omega arith)
 inside-ends (low h k) = (omega arith, omega arith)
 
+-- the start is never between; and from n round to n all others are
+pub start-outside : (p n : ℕ) → between p p n ≡ false
+start-outside p n = go (inside? p p n)
+  where
+    go : Inside p p n ⊎ Outside p p n → between p p n ≡ false
+    go (inl i) = absurd (inside-ends i .0 refl)
+    go (inr o) = outside-false o
+
+pub round-inside : (p n : ℕ) → (p ≡ n → ⊥) → between n p n ≡ true
+round-inside p n d = go (inside? n p n)
+  where
+    go : Inside n p n ⊎ Outside n p n → between n p n ≡ true
+    go (inl i) = inside-true i
+    go (inr (below h k)) = absurd (omega arith)
+    go (inr (beyond h k)) = absurd (omega arith)
+    go (inr (rest h k)) = absurd (d (omega arith))
+
 -- the key law: what lies inside (a, c) lies inside (a, b) or inside (b, c), or is b
 pub joint : {a q c b : ℕ} → Inside a q c → Outside a q b → Outside b q c → q ≡ b
 joint (mid h k) (below p o) z = omega arith

@@ -337,7 +337,7 @@ changed k x = alikeAnswer tableH (set tableH k x) .values
 abbrev pub waiting : ℕ → List ℕ
 waiting c = set (set tableH 12 1) 13 c
 
--- two members and no room for a third, 1 with a candidate that nobody can join as
+-- two members and no room for a third, 1 with a candidate pending that is no member
 abbrev pub hidden : ℕ → List ℕ
 hidden c = wordsOf (tableWith 1 (idle 0 1 (1 ∷ []) ∷ awaitCandidate c (idle 1 0 (0 ∷ [])) ∷ []))
 

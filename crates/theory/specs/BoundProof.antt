@@ -140,12 +140,13 @@ steps-end T f s n l = turn-until n T (record { formed = formed-facts T f; is-sou
 
 -- Slices
 
--- so many rounds of the table, written over the slice, are a sound table's slice again
+-- so many rounds of a sound table, written over the slice, are what is read there
 pub rounds-leaves : (j : ℕ) (ws : List ℕ) → Good ws → Written (afterRounds j (tableOf ws)) (written (afterRounds j (tableOf ws)) ws) ws
 rounds-leaves j ws s =
     let a = rounds-last j (tableOf ws) (good-kept ws s) in
     written-leaves (afterRounds j (tableOf ws)) ws (a .kept .formed) (omega (arith, same-size a, wellFormed-facts ws (s .well-formed) .fits))
 
+-- and it is a sound table's slice again
 pub rounds-slice : (j : ℕ) (ws : List ℕ) → Good ws → Good (written (afterRounds j (tableOf ws)) ws) × (tableOf (written (afterRounds j (tableOf ws)) ws) ≡ afterRounds j (tableOf ws))
 rounds-slice j ws s = let l = rounds-leaves j ws s in (leaves-good l (rounds-last j (tableOf ws) (good-kept ws s) .kept .is-sound), l .table)
 

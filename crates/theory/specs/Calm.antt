@@ -21,7 +21,8 @@ use Rattle.theory.specs.Bound.{UntilDone, last, more}
 use Rattle.theory.specs.Static.{lists-in-order}
 use Rattle.theory.specs.Keep.{Kept}
 use Rattle.theory.specs.Again.{LiveAt, live-at, in-front}
-use Rattle.theory.specs.Turns.{Predecessor, stays, dead, nearer, SameList, Acted, acted-step, acted-finished, small, acted-notice, stepped-named, noticed-named, noticed-list, delivered-list, stays-in}
+use Rattle.theory.specs.Forms.{small}
+use Rattle.theory.specs.Turns.{Predecessor, stays, dead, nearer, SameList, Acted, acted-step, acted-finished, acted-notice, stepped-named, noticed-named, noticed-list, delivered-list, stays-in}
 
 -- a member's successor and its predecessor, by name
 abbrev pub succOf : Table → ℕ → ℕ
@@ -208,7 +209,7 @@ module _ (n : ℕ) where
         p = u .predecessor
 
         same : ids (rectified h n T .members) ≡ ids (T .members)
-        same = acted-notice T k h (s .lives) n (small T k n i) .lasts .same-ids
+        same = acted-notice T k h (s .lives) n (small T (k .formed) n i) .lasts .same-ids
 
         list : SameList (named (rectified h n T .members) n) (named (T .members) n)
         list = noticed-list T k h (s .lives) n n

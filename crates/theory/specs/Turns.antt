@@ -5,7 +5,6 @@ use mathlib.Core.Logic.{_⊎_, inl, inr}
 use mathlib.Core.Bool.{Bool, true, false, not, _||_}
 use mathlib.Core.List.{List, [], _∷_}
 use Prim.Native.Nat.{ℕ, zero, suc, _<_}
-use native.Mathlib.Omega.{arith}
 use lib.Dec.{eqb}
 use lib.ListN.{length}
 use Rattle.model.specs.Lists.{if_then_else_, contains}
@@ -19,6 +18,7 @@ use Rattle.laws.specs.Lists.{In, here, there, length-ids, found, live-in, in-li
 use Rattle.laws.specs.Stabilize.{same-id, same-predecessor}
 use Rattle.laws.specs.Rectify.{rectify-same}
 use Rattle.theory.specs.Keep.{Kept, changed-principal, replaced-ids, replaced-named, replaced-others, replaced-changed}
+use Rattle.theory.specs.Forms.{small}
 use Rattle.theory.specs.Steps.{stabilize-fresh, stabilized-kept, rectify-fresh, rectified-kept}
 
 -- the predecessor p of x stays, or becomes n, which is between p and x, or p is no member
@@ -100,9 +100,6 @@ rectify-predecessor ms q x m e = go (between (m .predecessor) q (m .id)) refl (l
     go false ea false eb = dead refl eb
 
 module _ (T : Table) (k : Kept T) (n : ℕ) (i : In n (ids (T .members))) where
-  pub small : n < spaceOf T
-  small = let f = found (T .members) i in omega (arith, k .formed .each (named (T .members) n) (f .0) .id-small, f .1)
-
   -- one record in its place
   module _ (v : Member) (e : v .id ≡ n) where
     placed : named (replaced v (T .members)) n ≡ v
@@ -180,7 +177,7 @@ module _ (n : ℕ) where
   acted-delivered h T k i = go (live (T .members) h) refl
     where
       go : (b : Bool) → live (T .members) h ≡ b → Acted n T (if b then rectified h n T else T)
-      go true e = acted-notice T k h (live-in (T .members) h e) n (small T k n i)
+      go true e = acted-notice T k h (live-in (T .members) h e) n (small T (k .formed) n i)
       go false e = acted-none n T k
 
   -- it changes no list

@@ -1,6 +1,5 @@
 -- The proof of what Alike states of a no: a difference in predecessors, one of which is a member, is told by a loss and a notice.
 use mathlib.Core.Path.{_≡_, refl, sym, ap, subst, _∙_}
-use mathlib.Core.Logic.{_⊎_, inl, inr}
 use mathlib.Core.Bool.{Bool, true, false, not, _||_}
 use mathlib.Core.List.{List, [], _∷_}
 use Prim.Native.Nat.{ℕ, zero, suc}
@@ -18,8 +17,8 @@ use Rattle.model.specs.Refusals.{memberRefusal}
 use Rattle.model.specs.Calls.{writtenFreed, rectifyAnswer, failWords}
 use Rattle.model.specs.Run.{Fail, Rectify, callAnswer, callWords}
 use Rattle.model.specs.Service.{Called, serviceAnswer, serviceWords, answers}
-use Rattle.laws.specs.Order.{Inside, Outside, below, beyond, rest, inside?, inside-true, outside-false, inside-ends}
-use Rattle.laws.specs.Lists.{found, live-in, in-live, not-contains, select-in, rising-nodup}
+use Rattle.laws.specs.Order.{start-outside, round-inside}
+use Rattle.laws.specs.Lists.{true-or, found, live-in, in-live, not-contains, select-in, rising-nodup}
 use Rattle.laws.specs.Accepted.{member-accepted, member-accepts}
 use Rattle.laws.specs.Tables.{wellFormed-facts}
 use Rattle.laws.specs.Removed.{staying-named, without-keeps}
@@ -27,23 +26,6 @@ use Rattle.theory.specs.Alike.{PredecessorsTold}
 use Rattle.theory.specs.Forms.{without-leaves}
 
 -- A notice of p to n
-
--- it is not between p and n, and if it is not n it is between n and n
-never-between : (p n : ℕ) → between p p n ≡ false
-never-between p n = go (inside? p p n)
-  where
-    go : Inside p p n ⊎ Outside p p n → between p p n ≡ false
-    go (inl i) = absurd (inside-ends i .0 refl)
-    go (inr o) = outside-false o
-
-always-between : (p n : ℕ) → (p ≡ n → ⊥) → between n p n ≡ true
-always-between p n d = go (inside? n p n)
-  where
-    go : Inside n p n ⊎ Outside n p n → between n p n ≡ true
-    go (inl i) = inside-true i
-    go (inr (below h k)) = absurd (omega arith)
-    go (inr (beyond h k)) = absurd (omega arith)
-    go (inr (rest h k)) = absurd (d (omega arith))
 
 module _ (ws : List ℕ) (w : wellFormed ws ≡ true) (n : ℕ) (l : live (membersIn ws) n ≡ true) (m : Member) (e : named (membersIn ws) n ≡ m) (p : ℕ) where
   is-n : m .id ≡ n
@@ -54,17 +36,13 @@ module _ (ws : List ℕ) (w : wellFormed ws ≡ true) (n : ℕ) (l : live (membe
   told b h = rw (member-accepts ws n w l, e, is-n, h)
 
   told-same : m .predecessor ≡ p → live (membersIn ws) p ≡ true → rectifyAnswer ws n p ≡ accepted (0 ∷ [])
-  told-same q a = told false (rw (q, never-between p n, a))
+  told-same q a = told false (rw (q, start-outside p n, a))
 
   told-own : m .predecessor ≡ n → (p ≡ n → ⊥) → rectifyAnswer ws n p ≡ accepted (1 ∷ [])
-  told-own q d = told true (rw (q, always-between p n d))
+  told-own q d = told true (rw (q, round-inside p n d))
 
   told-dead : live (membersIn ws) (m .predecessor) ≡ false → rectifyAnswer ws n p ≡ accepted (1 ∷ [])
-  told-dead a = told true (rw a (last (between (m .predecessor) p n)))
-    where
-      last : (b : Bool) → (b || true) ≡ true
-      last true = refl
-      last false = refl
+  told-dead a = told true (rw a (true-or (between (m .predecessor) p n) refl))
 
 -- The loss of q
 
