@@ -13,3 +13,4 @@ pub mod Runs
 pub mod Tested
 pub mod RoundVerdict
 pub mod Settled
+pub mod Opening

@@ -1,4 +1,4 @@
--- What alike answers: document 01's number and values for each case.
+-- What a question that is answered by yes or no answers, alike for one: the documents' number and values for each case.
 use Prim.Native.Nat.{ℕ, zero, suc}
 use mathlib.Core.Path.{_≡_, refl}
 use mathlib.Core.List.{List, [], _∷_}

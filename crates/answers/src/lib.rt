@@ -4,6 +4,7 @@ pub mod field;
 pub mod found;
 pub mod member_count;
 pub mod notice;
+pub mod opening;
 pub mod report;
 pub mod round_verdict;
 pub mod runs;

@@ -1,4 +1,4 @@
-// A question answered by yes or no: alike.
+// A question answered by yes or no: alike, and whether a minute is open.
 ghost use Rattle.answers.specs.Packed.{Says};
 ghost use Rattle.answers.specs.YesNo.{answerOf};
 use crate::Answer;

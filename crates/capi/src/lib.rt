@@ -1,6 +1,6 @@
 // The library for C: thin exports over the proved calls. include/ring.h declares them.
 ghost use mathlib.Core.Path.{_≡_};
-ghost use Rattle.model.specs.Calls.{joinAnswer, joinWords, stabilizeAnswer, stabilizeWords, rectifyAnswer, rectifyWords, failAnswer, failWords, leaveAnswer, leaveWords, lookupAnswer, auditAnswer, newAnswer, newWords, alikeAnswer, writeAnswer, writeBytes, readAnswer, readWords, findingsAnswer, findingsAfter, heldAnswer, principalAnswer, roundAnswer, roundWords, settleAnswer, settleWords};
+ghost use Rattle.model.specs.Calls.{joinAnswer, joinWords, stabilizeAnswer, stabilizeWords, rectifyAnswer, rectifyWords, failAnswer, failWords, leaveAnswer, leaveWords, lookupAnswer, auditAnswer, newAnswer, newWords, alikeAnswer, writeAnswer, writeBytes, readAnswer, readWords, findingsAnswer, findingsAfter, heldAnswer, principalAnswer, roundAnswer, roundWords, settleAnswer, settleWords, isOpenAnswer, nextOpenAnswer, settleAtAnswer, settleAtWords};
 ghost use Rattle.model.specs.Image.{fieldAt};
 ghost use Rattle.finding.specs.View.{views};
 ghost use Rattle.answers.specs.Packed.{packed};
@@ -173,4 +173,28 @@ pub extern "C" fn ring_settle(table: &mut [u32], limit: u32) -> Answer
     ensures { λ a. ⌜ (a ≡ packed (settleAnswer (now (table .entry)) limit)) × (now (table .exit) ≡ settleWords (now (table .entry)) limit) ⌝ }
 {
     answers::settled::numbers(settle::settle(table, limit))
+}
+
+// Is a minute of the week open?
+#[no_mangle]
+pub extern "C" fn ring_is_open(windows: &[u32], minute: u32) -> Answer
+    ensures { λ a. ⌜ a ≡ packed (isOpenAnswer (now (windows .entry)) minute) ⌝ }
+{
+    answers::yes_no::numbers(hours::is_open(windows, minute))
+}
+
+// The first open minute at or after a minute of the week, going round.
+#[no_mangle]
+pub extern "C" fn ring_next_open(windows: &[u32], minute: u32) -> Answer
+    ensures { λ a. ⌜ a ≡ packed (nextOpenAnswer (now (windows .entry)) minute) ⌝ }
+{
+    answers::opening::numbers(hours::next_open(windows, minute))
+}
+
+// Rounds at the open minutes of a list until the table is ideal.
+#[no_mangle]
+pub extern "C" fn ring_settle_at(table: &mut [u32], windows: &[u32], minutes: &[u32]) -> Answer
+    ensures { λ a. ⌜ (a ≡ packed (settleAtAnswer (now (table .entry)) (now (windows .entry)) (now (minutes .entry)))) × (now (table .exit) ≡ settleAtWords (now (table .entry)) (now (windows .entry)) (now (minutes .entry))) ⌝ }
+{
+    answers::settled::numbers(settle::settle_at(table, windows, minutes))
 }

@@ -13,7 +13,7 @@ use Rattle.model.specs.Table.{recordSize, size, tableOf, membersIn, wellFormed}
 use Rattle.model.specs.Ring.{live, named, successor, sound}
 use Rattle.model.specs.Answer.{Answer, accepted, declined, Cause, _when_, firstOf, answer, afterwards}
 use Rattle.model.specs.Steps.{without}
-use Rattle.model.specs.Refusals.{full, cutsOff, tooFewPrincipals, joinRefusal, memberRefusal, leaveRefusal, settleRefusal}
+use Rattle.model.specs.Refusals.{full, cutsOff, tooFewPrincipals, joinRefusal, memberRefusal, leaveRefusal, settleRefusal, badWindows, badMinutes, settleAtRefusal}
 use Rattle.laws.specs.Lists.{or-false}
 
 pub declined-answer : (k : ℕ) (a : Answer) → (k ≡ 0 → ⊥) → declined k ≡ answer k a
@@ -119,3 +119,17 @@ settle-accepted ws h =
 pub settle-accepts : (ws : List ℕ) → wellFormed ws ≡ true → sound (tableOf ws) ≡ true → settleRefusal ws ≡ 0
 unfolding settleRefusal
 settle-accepts ws h s = rw (h, s)
+
+-- settle with windows is declined as settle is, where 15 and 16 do not apply
+pub settle-at-left : (ws vs ts : List ℕ) → badWindows vs ≡ false → badMinutes ts ≡ false → settleAtRefusal ws vs ts ≡ settleRefusal ws
+unfolding settleAtRefusal settleRefusal
+settle-at-left ws vs ts b m = rw (b, m)
+
+pub settle-at-accepted : (ws vs ts : List ℕ) → settleAtRefusal ws vs ts ≡ 0 → (settleRefusal ws ≡ 0) × (badWindows vs ≡ false) × (badMinutes ts ≡ false)
+unfolding settleAtRefusal
+settle-at-accepted ws vs ts h =
+    let a = none-applies 0 (not (wellFormed ws)) _ h in
+    let b = none-applies 14 (badWindows vs) _ (a .1) in
+    let c = none-applies 15 (badMinutes ts) _ (b .1) in
+    let d = none-applies 13 (not (sound (tableOf ws))) 0 (c .1) in
+    (settle-accepts ws (not-false _ (a .0)) (not-false _ (d .0)), b .0, c .0)

@@ -14,6 +14,7 @@ pub mod Removed
 pub mod Uncounted
 pub mod Parts
 pub mod Accepted
+pub mod Windows
 pub mod Stabilize
 pub mod Rectify
 pub mod Verdicts

@@ -2,7 +2,7 @@
 use Prim.Native.Nat.{ℕ}
 use mathlib.Core.List.{List, [], _∷_, _++_}
 use lib.ListN.{length, replicate}
-use Rattle.model.specs.Lists.{bit, overlay}
+use Rattle.model.specs.Lists.{option, bit, overlay}
 use Rattle.model.specs.Table.{Table, tableOf, membersIn, wordsOf, recordSize}
 use Rattle.model.specs.Ring.{named}
 use Rattle.model.specs.Answer.{Answer, accepted, answer, afterwards}
@@ -14,7 +14,8 @@ use Rattle.model.specs.Image.{imageOf, tableIn}
 use Rattle.model.specs.Held.{runsOf, bounds}
 use Rattle.model.specs.Pairs.{principalReply}
 use Rattle.model.specs.Settle.{afterRound, afterSettle, roundReply, settleReply}
-use Rattle.model.specs.Refusals.{joinRefusal, memberRefusal, leaveRefusal, auditRefusal, findingsRefusal, alikeRefusal, newRefusal, writeRefusal, readRefusal, heldRefusal, settleRefusal}
+use Rattle.model.specs.Windows.{windowsIn, isOpen, nextOpen, afterSettleAt, settleAtReply}
+use Rattle.model.specs.Refusals.{joinRefusal, memberRefusal, leaveRefusal, auditRefusal, findingsRefusal, alikeRefusal, newRefusal, writeRefusal, readRefusal, heldRefusal, settleRefusal, openRefusal, settleAtRefusal}
 
 -- a slice with the table T in the place of its old table, and all later words as they were
 abbrev pub written : Table → List ℕ → List ℕ
@@ -136,3 +137,21 @@ settleAnswer ws limit = answer (settleRefusal ws) (accepted (settleReply limit (
 
 unfoldable pub settleWords : List ℕ → ℕ → List ℕ
 settleWords ws limit = afterwards (settleRefusal ws) (written (afterSettle limit (tableOf ws)) ws) ws
+
+-- Is a minute of the week open: 1 is yes, 0 is no; it writes nothing
+
+unfoldable pub isOpenAnswer : List ℕ → ℕ → Answer
+isOpenAnswer vs m = answer (openRefusal vs m) (accepted (bit (isOpen (windowsIn vs) m) ∷ []))
+
+-- The next open minute: 1 and the minute, or 0 for none; it writes nothing
+
+unfoldable pub nextOpenAnswer : List ℕ → ℕ → Answer
+nextOpenAnswer vs m = answer (openRefusal vs m) (accepted (option (nextOpen (windowsIn vs) m) (0 ∷ []) (λ x. 1 ∷ x ∷ [])))
+
+-- Settle with windows, at the minutes of a list
+
+unfoldable pub settleAtAnswer : List ℕ → List ℕ → List ℕ → Answer
+settleAtAnswer ws vs ts = answer (settleAtRefusal ws vs ts) (accepted (settleAtReply (windowsIn vs) ts (tableOf ws)))
+
+unfoldable pub settleAtWords : List ℕ → List ℕ → List ℕ → List ℕ
+settleAtWords ws vs ts = afterwards (settleAtRefusal ws vs ts) (written (afterSettleAt (windowsIn vs) ts (tableOf ws)) ws) ws

@@ -1,6 +1,6 @@
--- Worked examples, computed: document 01's table of them as one statement over a list of cases, then those of document 02's Req 01 to Req 08.
+-- Worked examples, computed: document 01's table of them as one statement over a list of cases, then those of document 02's Req 01 to Req 09.
 -- A yes is 1 and a no is 0; a number that stands alone is a call's refusal, 0 where it is accepted; other lists are a call's values.
-use Prim.Native.Nat.{ℕ, _+_, _*_}
+use Prim.Native.Nat.{ℕ, zero, suc, _+_, _*_}
 use mathlib.Core.Path.{_≡_, refl}
 use mathlib.Core.List.{List, [], _∷_, _++_, map}
 use lib.ListN.{length, replicate, take, drop, set}
@@ -15,11 +15,12 @@ use Rattle.model.specs.Alike.{alikeMember, alike}
 use Rattle.model.specs.Image.{imageOf, isImage}
 use Rattle.model.specs.Held.{runsOf}
 use Rattle.model.specs.Settle.{delivered, lastStep, finished, afterTurn, afterRound, afterRounds, roundsRun, roundReply, settleReply}
-use Rattle.model.specs.Refusals.{full, newRefusal, noNewTable, joinRefusal, memberRefusal, leaveRefusal, cutsOff, tooFewPrincipals, heldRefusal, settleRefusal, alikeRefusal}
-use Rattle.model.specs.Calls.{joinAnswer, joinWords, stabilizeAnswer, stabilizeWords, failAnswer, failWords, newAnswer, newWords, leaveAnswer, leaveWords, heldAnswer, principalAnswer, alikeAnswer, roundAnswer, roundWords, settleAnswer, settleWords}
+use Rattle.model.specs.Windows.{windowsIn, inWindow, firstOpen, nextOpen, openMinutes, settleAtReply}
+use Rattle.model.specs.Refusals.{full, newRefusal, noNewTable, joinRefusal, memberRefusal, leaveRefusal, cutsOff, tooFewPrincipals, heldRefusal, settleRefusal, alikeRefusal, rightWindow, badWindows, badMinutes, openRefusal, settleAtRefusal}
+use Rattle.model.specs.Calls.{joinAnswer, joinWords, stabilizeAnswer, stabilizeWords, failAnswer, failWords, newAnswer, newWords, leaveAnswer, leaveWords, heldAnswer, principalAnswer, alikeAnswer, roundAnswer, roundWords, settleAnswer, settleWords, isOpenAnswer, nextOpenAnswer, settleAtAnswer, settleAtWords}
 use Rattle.model.specs.Fold.{eachTells}
 use Rattle.model.specs.Run.{Join, Leave, Fail, Stabilize, callAnswer, callWords, run, grantedCall, granted}
-use Rattle.model.specs.Service.{Called, Round, Settle, serviceAnswer, serviceWords, answers}
+use Rattle.model.specs.Service.{Called, Round, Settle, SettleAt, serviceAnswer, serviceWords, answers}
 
 -- a case: what the definitions compute, and what document 01 says
 pub record Case : Type 0 where
@@ -374,10 +375,73 @@ pub each-tells : eachTells (λ s c. s + c) (λ s c. 10 * s + c) (1 ∷ 2 ∷ 3 �
 each-tells = refl
 
 -- and so what a list of calls answers, one by one
-pub in-order : answers (Called (Join 25 20) ∷ Called (Join 25 20) ∷ Called (Stabilize 25) ∷ Called (Fail 25) ∷ Called (Stabilize 25) ∷ Settle 9 ∷ Round ∷ []) tableH
-    ≡ accepted (4 ∷ []) ∷ declined 2 ∷ accepted (2 ∷ 30 ∷ []) ∷ accepted (3 ∷ []) ∷ declined 3 ∷ accepted (0 ∷ 2 ∷ 0 ∷ []) ∷ accepted (2 ∷ []) ∷ []
+pub in-order : answers (Called (Join 25 20) ∷ Called (Join 25 20) ∷ Called (Stabilize 25) ∷ Called (Fail 25) ∷ Called (Stabilize 25) ∷ Settle 9 ∷ SettleAt (5 ∷ []) [] ∷ SettleAt (5 ∷ 6 ∷ []) (5 ∷ []) ∷ Round ∷ []) tableH
+    ≡ accepted (4 ∷ []) ∷ declined 2 ∷ accepted (2 ∷ 30 ∷ []) ∷ accepted (3 ∷ []) ∷ declined 3 ∷ accepted (0 ∷ 2 ∷ 0 ∷ []) ∷ declined 15
+    ∷ accepted (0 ∷ 2 ∷ 0 ∷ []) ∷ accepted (2 ∷ []) ∷ []
 unfolding answers serviceAnswer serviceWords callAnswer callWords joinAnswer joinWords joinRefusal full failAnswer failWords stabilizeAnswer stabilizeWords
     stabilizeReply memberRefusal stabilize stabilizeFromSuccessor stabilizeFromPredecessor nextStep between after renews delivered lastStep finished afterTurn
-    afterRound settleAnswer settleWords roundAnswer roundWords settleRefusal newWords newRefusal noNewTable verdict sound ideal idealMember candidateInside
+    afterRound settleAnswer settleWords settleAtAnswer settleAtWords settleAtRefusal badWindows rightWindow badMinutes inWindow roundAnswer roundWords settleRefusal newWords newRefusal noNewTable verdict sound ideal idealMember candidateInside
     wellFormed formed formedMember space
 in-order = refl
+
+-- Req 09: a window from 100 to 160, and one that runs over the week's end, from 10000 to 60
+
+abbrev pub nights : List ℕ
+nights = 100 ∷ 160 ∷ 10000 ∷ 60 ∷ []
+
+-- is each of the minutes open?
+abbrev pub opens : List ℕ → List ℕ → List ℕ
+opens vs [] = []
+opens vs (m ∷ ms) = isOpenAnswer vs m .values ++ opens vs ms
+
+-- the window from 5 to 6, so many times
+abbrev pub times : ℕ → List ℕ
+times zero = []
+times (suc k) = 5 ∷ 6 ∷ times k
+
+abbrev pub windowCases : List Case
+windowCases =
+    -- a window holds its start and not its end
+    (opens nights (99 ∷ 100 ∷ 159 ∷ 160 ∷ []) gives 0 ∷ 1 ∷ 1 ∷ 0 ∷ []) ∷
+    -- and runs over the week's end
+    (opens nights (9999 ∷ 10000 ∷ 10079 ∷ 0 ∷ 59 ∷ 60 ∷ []) gives 0 ∷ 1 ∷ 1 ∷ 1 ∷ 1 ∷ 0 ∷ []) ∷
+    -- the next open minute of an open one is itself, of a closed one the next start
+    (nextOpenAnswer nights 130 .values ++ nextOpenAnswer nights 60 .values gives 1 ∷ 130 ∷ 1 ∷ 100 ∷ []) ∷
+    -- it may be round the end, and as far as 10079 minutes away; windows that overlap or follow one another are no matter
+    (nextOpenAnswer (20 ∷ 30 ∷ []) 10070 .values ++ nextOpenAnswer (5 ∷ 6 ∷ []) 6 .values ++ nextOpenAnswer (50 ∷ 70 ∷ 40 ∷ 60 ∷ 70 ∷ 80 ∷ []) 30 .values
+    gives 1 ∷ 20 ∷ 1 ∷ 5 ∷ 1 ∷ 40 ∷ []) ∷
+    -- there is none without windows
+    (opens [] (0 ∷ 10079 ∷ []) ++ nextOpenAnswer [] 7 .values gives 0 ∷ 0 ∷ 0 ∷ []) ∷
+    -- 15: equal ends, a minute over 10079 as start, as end or asked, a word without a partner, 17 windows; 16 of them are right
+    (map (λ vs. openRefusal vs 7) ((5 ∷ 5 ∷ []) ∷ (10080 ∷ 5 ∷ []) ∷ (5 ∷ 10080 ∷ []) ∷ (5 ∷ 6 ∷ 7 ∷ []) ∷ times 17 ∷ times 16 ∷ []) ++ map (openRefusal nights) (10079 ∷ 10080 ∷ [])
+    gives 15 ∷ 15 ∷ 15 ∷ 15 ∷ 15 ∷ 0 ∷ 0 ∷ 15 ∷ []) ∷ []
+
+pub windows : map (λ c. c .computed) windowCases ≡ map (λ c. c .expected) windowCases
+unfolding isOpenAnswer nextOpenAnswer openRefusal badWindows rightWindow inWindow nextOpen firstOpen
+windows = refl
+
+-- settle with windows: rounds run, verdict, entries passed over. joined25, of Req 05, takes three rounds
+abbrev pub settleAtCases : List Case
+settleAtCases =
+    -- a round at each open minute and none at a closed one; 10080 is minute 0 of the next week
+    (settleAtReply (windowsIn nights) (99 ∷ 100 ∷ 160 ∷ []) joined25 ++ settleAtReply (windowsIn nights) (100 ∷ 10080 ∷ []) joined25 gives 1 ∷ 1 ∷ 0 ∷ 2 ∷ 1 ∷ 0 ∷ []) ∷
+    -- it stops where the verdict is 2
+    (settleAtReply (windowsIn nights) (100 ∷ 101 ∷ 102 ∷ 103 ∷ 104 ∷ []) joined25 ++ settleAtReply (windowsIn nights) (100 ∷ []) (ring4 10 40) gives 3 ∷ 2 ∷ 0 ∷ 0 ∷ 2 ∷ 0 ∷ []) ∷
+    -- no minute; closed minutes, the second of them open if the remainder by 1440 decided; the sum is of the table as it began
+    (settleAtReply (windowsIn nights) [] joined25 ++ settleAtReply (windowsIn nights) (60 ∷ 1540 ∷ []) joined25 ++ settleAtReply (windowsIn nights) (100 ∷ []) waiting15
+    gives 0 ∷ 1 ∷ 0 ∷ 0 ∷ 1 ∷ 0 ∷ 1 ∷ 2 ∷ 1 ∷ []) ∷
+    -- open minutes of a list
+    (openMinutes (windowsIn nights) (60 ∷ 100 ∷ 10180 ∷ 10240 ∷ []) ∷ [] gives 2 ∷ []) ∷ []
+
+pub settles-at : map (λ c. c .computed) settleAtCases ≡ map (λ c. c .expected) settleAtCases
+unfolding inWindow verdict sound ideal idealMember candidateInside between after stabilize stabilizeFromSuccessor stabilizeFromPredecessor stabilizeReply nextStep
+    renews delivered lastStep finished afterTurn afterRound space
+settles-at = refl
+
+-- 1 before 15, 15 before 16, 16 before 14, and then 14; lists are judged whole, with closed minutes and on an ideal table too
+pub settle-at-refusals : settleAtRefusal blank (5 ∷ []) (2 ∷ 1 ∷ []) ∷ settleAtRefusal (wordsOf (ring2 20)) (5 ∷ []) (2 ∷ 1 ∷ []) ∷ settleAtRefusal (wordsOf (ring2 20)) nights (2 ∷ 1 ∷ [])
+    ∷ settleAtRefusal (wordsOf (ring2 20)) nights (1 ∷ 2 ∷ []) ∷ settleAtRefusal (wordsOf (ring4 10 40)) [] (1 ∷ 4294967295 ∷ []) ∷ settleAtRefusal (wordsOf (ring4 10 40)) [] (7 ∷ 7 ∷ [])
+    ∷ settleAtRefusal (wordsOf joined25) [] (1 ∷ 4294967294 ∷ []) ∷ []
+    ≡ 1 ∷ 15 ∷ 16 ∷ 14 ∷ 16 ∷ 16 ∷ 0 ∷ []
+unfolding settleAtRefusal badWindows rightWindow badMinutes sound ideal idealMember candidateInside between wellFormed formed formedMember space
+settle-at-refusals = refl

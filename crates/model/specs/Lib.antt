@@ -1,4 +1,4 @@
--- Document 01 as definitions, in its order, and then what document 02 adds: Held, Pairs, Settle, Service.
+-- Document 01 as definitions, in its order, and then what document 02 adds: Held, Pairs, Settle, Windows, Service.
 pub mod Lists
 pub mod Identifier
 pub mod Table
@@ -13,6 +13,7 @@ pub mod Image
 pub mod Held
 pub mod Pairs
 pub mod Settle
+pub mod Windows
 pub mod Refusals
 pub mod Calls
 pub mod Fold

@@ -2,7 +2,7 @@
 use Prim.Native.Nat.{ℕ, _+_, _-_}
 use mathlib.Core.Bool.{Bool, not, _&&_, _||_}
 use mathlib.Core.List.{List, [], _∷_}
-use lib.Dec.{ltb, leb}
+use lib.Dec.{ltb, leb, eqb}
 use lib.ListN.{length}
 use Rattle.model.specs.Lists.{every, rising}
 use Rattle.model.specs.Identifier.{between}
@@ -12,6 +12,7 @@ use Rattle.model.specs.Answer.{_when_, firstOf}
 use Rattle.model.specs.Steps.{without}
 use Rattle.model.specs.New.{newTable}
 use Rattle.model.specs.Image.{isImage, imageOf, tableIn}
+use Rattle.model.specs.Windows.{Window, week, windowsIn, paired}
 
 -- 5: 256 members, or fewer than r + 5 words after the last record
 unfoldable pub full : List ℕ → Bool
@@ -28,6 +29,22 @@ tooFewPrincipals T = ltb (principals (T .members)) (T .r + 1)
 -- 11: r not 1 to 8, identifiers not strictly rising, fewer than r + 1, more than 256
 unfoldable pub noNewTable : ℕ → List ℕ → Bool
 noNewTable r xs = not (leb 1 r && leb r 8 && rising xs && leb (r + 1) (length xs) && leb (length xs) 256)
+
+-- 14: the table is not sound
+abbrev pub notSound : Table → Bool
+notSound T = not (sound T)
+
+-- a window between two different minutes of the week
+unfoldable pub rightWindow : Window → Bool
+rightWindow w = not (eqb (w .start) (w .end)) && ltb (w .start) week && ltb (w .end) week
+
+-- 15: more than 16 windows, a window with equal ends or with a minute of the week over 10079, or a last word without a partner
+unfoldable pub badWindows : List ℕ → Bool
+badWindows vs = not (paired vs && leb (length (windowsIn vs)) 16 && every rightWindow (windowsIn vs))
+
+-- 16: minutes not strictly rising, or not all below 4294967295
+unfoldable pub badMinutes : List ℕ → Bool
+badMinutes ts = not (rising ts && every (λ t. ltb t 4294967295) ts)
 
 -- join j by p
 unfoldable pub joinRefusal : List ℕ → ℕ → ℕ → ℕ
@@ -94,8 +111,21 @@ heldRefusal ws n ks = firstOf (
     (3 when not (live (membersIn ws) n)) ∷
     (12 when not (rising ks)) ∷ [])
 
--- a round, and settle: 14, the table is not sound
+-- a round, and settle
 unfoldable pub settleRefusal : List ℕ → ℕ
 settleRefusal ws = firstOf (
     (1 when not (wellFormed ws)) ∷
-    (14 when not (sound (tableOf ws))) ∷ [])
+    (14 when notSound (tableOf ws)) ∷ [])
+
+-- whether a minute is open, and the next open one: 15 is of the minute too
+unfoldable pub openRefusal : List ℕ → ℕ → ℕ
+openRefusal vs m = firstOf (
+    (15 when (badWindows vs || leb week m)) ∷ [])
+
+-- settle with windows
+unfoldable pub settleAtRefusal : List ℕ → List ℕ → List ℕ → ℕ
+settleAtRefusal ws vs ts = firstOf (
+    (1 when not (wellFormed ws)) ∷
+    (15 when badWindows vs) ∷
+    (16 when badMinutes ts) ∷
+    (14 when notSound (tableOf ws)) ∷ [])

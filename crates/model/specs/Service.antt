@@ -1,35 +1,39 @@
--- Lists in which document 02's rounds and settles stand among the seven calls, and the table that such a list leads to.
+-- Lists in which document 02's rounds and settles, with windows too, stand among the seven calls, and the table that such a list leads to.
 use Prim.Native.Nat.{ℕ}
 use mathlib.Core.Bool.{Bool, true, false, not}
 use mathlib.Core.List.{List, []}
 use Rattle.model.specs.Fold.{afterAll, eachTells, eachMeets}
 use Rattle.model.specs.Answer.{Answer}
-use Rattle.model.specs.Calls.{roundAnswer, roundWords, settleAnswer, settleWords}
+use Rattle.model.specs.Calls.{roundAnswer, roundWords, settleAnswer, settleWords, settleAtAnswer, settleAtWords}
 use Rattle.model.specs.Run.{Call, numbersOf, callAnswer, callWords, grantedCall, goes}
 
--- one of the seven calls, a round, or settle with a limit
+-- one of the seven calls, a round, settle with a limit, or settle with windows at the minutes of a list
 pub data Service : Type 0 where
   Called : (c : Call) → Service
   Round : Service
   Settle : (limit : ℕ) → Service
+  SettleAt : (windows minutes : List ℕ) → Service
 
 -- the identifiers and the key that it is given
 abbrev pub identifiersOf : Service → List ℕ
 identifiersOf (Called c) = numbersOf c
 identifiersOf Round = []
 identifiersOf (Settle limit) = []
+identifiersOf (SettleAt vs ts) = []
 
 -- what it answers on a slice
 unfoldable pub serviceAnswer : List ℕ → Service → Answer
 serviceAnswer ws (Called c) = callAnswer ws c
 serviceAnswer ws Round = roundAnswer ws
 serviceAnswer ws (Settle limit) = settleAnswer ws limit
+serviceAnswer ws (SettleAt vs ts) = settleAtAnswer ws vs ts
 
 -- the slice after it
 unfoldable pub serviceWords : List ℕ → Service → List ℕ
 serviceWords ws (Called c) = callWords ws c
 serviceWords ws Round = roundWords ws
 serviceWords ws (Settle limit) = settleWords ws limit
+serviceWords ws (SettleAt vs ts) = settleAtWords ws vs ts
 
 -- the slice after a list of them, each on what the last one left
 unfoldable pub served : List Service → List ℕ → List ℕ
@@ -44,6 +48,7 @@ unfoldable pub grantedService : List ℕ → Service → Bool
 grantedService ws (Called c) = grantedCall ws c
 grantedService ws Round = true
 grantedService ws (Settle limit) = true
+grantedService ws (SettleAt vs ts) = true
 
 -- each loss of a list is such a one at its moment
 unfoldable pub grantedAll : List Service → List ℕ → Bool
@@ -54,6 +59,7 @@ unfoldable pub goesService : List ℕ → Service → Bool
 goesService ws (Called c) = goes ws c
 goesService ws Round = false
 goesService ws (Settle limit) = false
+goesService ws (SettleAt vs ts) = false
 
 -- by a list of them no member goes
 unfoldable pub noneGoes : List Service → List ℕ → Bool

@@ -62,9 +62,14 @@ roundsRun (suc limit) T = if eqb (verdict T) 2 then 0 else suc (roundsRun limit 
 abbrev pub afterSettle : ℕ → Table → Table
 afterSettle limit T = afterRounds (roundsRun limit T) T
 
--- a round replies the verdict after it; settle the rounds run, the verdict, and the entries passed over by all members of the table as it began (document 02, Req 06)
+-- a round replies the verdict after it
 abbrev pub roundReply : Table → List ℕ
 roundReply T = verdict (afterRound T) ∷ []
 
+-- what is replied where so many rounds were run: their number, the verdict, and the entries passed over by all members of the table as it began
+-- (document 02, Req 06)
+abbrev pub ranReply : ℕ → Table → List ℕ
+ranReply k T = k ∷ verdict (afterRounds k T) ∷ passedByAll (T .members) ∷ []
+
 abbrev pub settleReply : ℕ → Table → List ℕ
-settleReply limit T = roundsRun limit T ∷ verdict (afterSettle limit T) ∷ passedByAll (T .members) ∷ []
+settleReply limit T = ranReply (roundsRun limit T) T

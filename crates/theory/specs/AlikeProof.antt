@@ -18,20 +18,22 @@ use Rattle.model.specs.Findings.{Finding, findings}
 use Rattle.model.specs.Image.{fieldHead, headerLength, imageOf}
 use Rattle.model.specs.Held.{runsOf, bounds}
 use Rattle.model.specs.Pairs.{Pair, taken, skippedBy, principalReply}
-use Rattle.model.specs.Settle.{delivered, nextReply, isDone, lastStep, finished, untilDone, afterTurn, afterTurns, afterRound, afterRounds, roundsRun, afterSettle}
-use Rattle.model.specs.Refusals.{full, cutsOff, tooFewPrincipals, joinRefusal, memberRefusal, leaveRefusal, auditRefusal, findingsRefusal, alikeRefusal, writeRefusal, heldRefusal, settleRefusal}
-use Rattle.model.specs.Calls.{written, writtenFreed, joinAnswer, joinWords, stabilizeAnswer, stabilizeWords, rectifyAnswer, rectifyWords, failAnswer, failWords, leaveAnswer, leaveWords, lookupAnswer, auditAnswer, findingsAnswer, findingsAfter, alikeAnswer, writeAnswer, heldAnswer, principalAnswer, roundAnswer, roundWords, settleAnswer, settleWords}
+use Rattle.model.specs.Settle.{delivered, nextReply, isDone, lastStep, finished, untilDone, afterTurn, afterTurns, afterRound, afterRounds, roundsRun, ranReply}
+use Rattle.model.specs.Windows.{Window, windowsIn, openMinutes, roundsAt}
+use Rattle.model.specs.Refusals.{full, cutsOff, tooFewPrincipals, joinRefusal, memberRefusal, leaveRefusal, auditRefusal, findingsRefusal, alikeRefusal, writeRefusal, heldRefusal, settleRefusal, badWindows, badMinutes, settleAtRefusal}
+use Rattle.model.specs.Calls.{written, writtenFreed, joinAnswer, joinWords, stabilizeAnswer, stabilizeWords, rectifyAnswer, rectifyWords, failAnswer, failWords, leaveAnswer, leaveWords, lookupAnswer, auditAnswer, findingsAnswer, findingsAfter, alikeAnswer, writeAnswer, heldAnswer, principalAnswer, roundAnswer, roundWords, settleAnswer, settleWords, settleAtAnswer, settleAtWords}
 use Rattle.model.specs.Run.{Call, Join, Leave, Fail, Stabilize, Rectify, Lookup, Audit, numbersOf, callAnswer, callWords}
-use Rattle.model.specs.Service.{Service, Called, Round, Settle, identifiersOf, serviceAnswer, serviceWords, answers, served}
+use Rattle.model.specs.Service.{Service, Called, Round, Settle, SettleAt, identifiersOf, serviceAnswer, serviceWords, answers, served}
 use Rattle.laws.specs.Lists.{and-true}
 use Rattle.laws.specs.Fold.{both-tell}
-use Rattle.laws.specs.Accepted.{leave-accepted, member-accepted, settle-accepted}
+use Rattle.laws.specs.Accepted.{leave-accepted, member-accepted, settle-accepted, settle-at-accepted}
+use Rattle.laws.specs.Windows.{rounds-at}
 use Rattle.laws.specs.Tables.{wellFormed-facts, formed-lists}
 use Rattle.laws.specs.Bytes.{fieldSize, image-length}
 use Rattle.laws.specs.Uncounted.{erased, erased-length, erased-ids, erased-named, erased-principals, erased-all-live, erased-passed-all, erased-findings, erased-lookup, erased-runs, erased-pairs, sound-uncounted, verdict-uncounted, audit-uncounted, erased-reply, erased-renews, stepped, joined-uncounted, stabilized-uncounted, rectified-uncounted, without-uncounted, alike-uncounted, alike-equal, equal-alike}
 use Rattle.theory.specs.Alike.{SaysYes, SameViews, YesMeans, YesIsEqual}
 use Rattle.theory.specs.Forms.{Written, join-leaves, stabilize-leaves, rectify-leaves, without-leaves}
-use Rattle.theory.specs.Runs.{good-kept}
+use Rattle.theory.specs.Runs.{Good, good-kept}
 use Rattle.theory.specs.Turns.{rounds-last}
 use Rattle.theory.specs.BoundProof.{rounds-leaves}
 
@@ -129,8 +131,11 @@ same-run : (limit : ℕ) {T S : Table} → Like T S → roundsRun limit T ≡ ro
 same-run zero e = refl
 same-run (suc limit) e = ap₂ (λ (v k : ℕ). if eqb v 2 then 0 else suc k) (same-verdict e) (same-run limit (round-like e))
 
-settled-like : (limit : ℕ) {T S : Table} → Like T S → Like (afterSettle limit T) (afterSettle limit S)
-settled-like limit {T} {S} e = subst (λ (k : ℕ). Like (afterSettle limit T) (afterRounds k S)) (same-run limit e) (rounds-like (roundsRun limit T) e)
+same-run-at : (ws : List Window) (ts : List ℕ) {T S : Table} → Like T S → roundsAt ws ts T ≡ roundsAt ws ts S
+same-run-at ws ts {T} {S} e = rounds-at ws ts T ∙ same-run (openMinutes ws ts) e ∙ sym (rounds-at ws ts S)
+
+ran-like : {i j : ℕ} {T S : Table} → i ≡ j → Like T S → Like (afterRounds i T) (afterRounds j S)
+ran-like {i} {j} {T} {S} q e = subst (λ (k : ℕ). Like (afterRounds i T) (afterRounds k S)) q (rounds-like i e)
 
 -- Slices
 
@@ -206,6 +211,10 @@ module _ {w : ℕ} {us vs : List ℕ} (s : Same w us vs) where
   unfolding settleRefusal
   settle-refusal = λ i. firstOf ((1 when not (same-formed i)) ∷ (14 when not (told sound sound-uncounted e i)) ∷ [])
 
+  settle-at-refusal : (hs ts : List ℕ) → settleAtRefusal us hs ts ≡ settleAtRefusal vs hs ts
+  unfolding settleAtRefusal
+  settle-at-refusal hs ts = λ i. firstOf ((1 when not (same-formed i)) ∷ (15 when badWindows hs) ∷ (16 when badMinutes ts) ∷ (14 when not (told sound sound-uncounted e i)) ∷ [])
+
   -- one law a call
 
   join-same : (j p : ℕ) → j < spaceOf (tableOf us) → Agree w (joinAnswer us j p) (joinAnswer vs j p) (joinWords us j p) (joinWords vs j p)
@@ -260,24 +269,40 @@ module _ {w : ℕ} {us vs : List ℕ} (s : Same w us vs) where
   unfolding auditAnswer auditRefusal
   audit-same = λ i. answer (firstOf ((1 when not (same-formed i)) ∷ [])) (accepted (told auditReply audit-uncounted e i))
 
-  -- rounds, which are run on sound tables
-  rounds-same : (j k : ℕ) → Like (afterRounds j (tableOf us)) (afterRounds k (tableOf vs))
-      → Same w (afterwards (settleRefusal us) (written (afterRounds j (tableOf us)) us) us) (afterwards (settleRefusal vs) (written (afterRounds k (tableOf vs)) vs) vs)
-  rounds-same j k l = left-same (settleRefusal us) (settleRefusal vs) _ _ settle-refusal
-      (λ a b. let g = settle-accepted us a in let h = settle-accepted vs b in
-      leaves-same (rounds-last j (tableOf us) (good-kept us (record { well-formed = g .0; is-sound = g .1 })) .same-space)
-      (rounds-leaves j us (record { well-formed = g .0; is-sound = g .1 })) (rounds-leaves k vs (record { well-formed = h .0; is-sound = h .1 })) l)
+  -- rounds, which are run on sound tables alone
+  rounds-same : (k l : ℕ) → k ≡ l → (k ≡ 0 → settleRefusal us ≡ 0) → (l ≡ 0 → settleRefusal vs ≡ 0) → (i j : ℕ) → Like (afterRounds i (tableOf us)) (afterRounds j (tableOf vs))
+      → Same w (afterwards k (written (afterRounds i (tableOf us)) us) us) (afterwards l (written (afterRounds j (tableOf vs)) vs) vs)
+  rounds-same k l q f g i j r = left-same k l _ _ q
+      (λ a b. let x = good us (f a) in leaves-same (rounds-last i (tableOf us) (good-kept us x) .same-space) (rounds-leaves i us x) (rounds-leaves j vs (good vs (g b))) r)
+    where
+      good : (ws : List ℕ) → settleRefusal ws ≡ 0 → Good ws
+      good ws e = let a = settle-accepted ws e in record { well-formed = a .0; is-sound = a .1 }
 
   round-same : Agree w (roundAnswer us) (roundAnswer vs) (roundWords us) (roundWords vs)
   unfolding roundAnswer roundWords
-  round-same = ((λ i. answer (settle-refusal i) (accepted (same-verdict (round-like e) i ∷ []))), rounds-same 1 1 (round-like e))
+  round-same = (
+    (λ i. answer (settle-refusal i) (accepted (same-verdict (round-like e) i ∷ []))),
+    rounds-same (settleRefusal us) (settleRefusal vs) settle-refusal (λ z. z) (λ z. z) 1 1 (round-like e),
+  )
+
+  -- settle, with a limit or with windows: declined by the same number, it runs equally many rounds
+  ran-same : (k l : ℕ) → k ≡ l → (k ≡ 0 → settleRefusal us ≡ 0) → (l ≡ 0 → settleRefusal vs ≡ 0) → (i j : ℕ) → i ≡ j
+      → Agree w (answer k (accepted (ranReply i (tableOf us)))) (answer l (accepted (ranReply j (tableOf vs))))
+      (afterwards k (written (afterRounds i (tableOf us)) us) us) (afterwards l (written (afterRounds j (tableOf vs)) vs) vs)
+  ran-same k l q f g i j z =
+      let r = ran-like z e in (
+        (λ x. answer (q x) (accepted (z x ∷ same-verdict r x ∷ told (λ U. passedByAll (U .members)) (λ U. erased-passed-all (U .members)) e x ∷ []))),
+        rounds-same k l q f g i j r,
+      )
 
   settle-same : (limit : ℕ) → Agree w (settleAnswer us limit) (settleAnswer vs limit) (settleWords us limit) (settleWords vs limit)
   unfolding settleAnswer settleWords
-  settle-same limit = (
-    (λ i. answer (settle-refusal i) (accepted (same-run limit e i ∷ same-verdict (settled-like limit e) i ∷ told (λ U. passedByAll (U .members)) (λ U. erased-passed-all (U .members)) e i ∷ []))),
-    rounds-same (roundsRun limit (tableOf us)) (roundsRun limit (tableOf vs)) (settled-like limit e),
-  )
+  settle-same limit = ran-same (settleRefusal us) (settleRefusal vs) settle-refusal (λ z. z) (λ z. z) _ _ (same-run limit e)
+
+  settle-at-same : (hs ts : List ℕ) → Agree w (settleAtAnswer us hs ts) (settleAtAnswer vs hs ts) (settleAtWords us hs ts) (settleAtWords vs hs ts)
+  unfolding settleAtAnswer settleAtWords
+  settle-at-same hs ts = ran-same (settleAtRefusal us hs ts) (settleAtRefusal vs hs ts) (settle-at-refusal hs ts)
+      (λ z. settle-at-accepted us hs ts z .0) (λ z. settle-at-accepted vs hs ts z .0) _ _ (same-run-at (windowsIn hs) ts e)
 
   call-same : (c : Call) → every (λ x. ltb x w) (numbersOf c) ≡ true → Agree w (callAnswer us c) (callAnswer vs c) (callWords us c) (callWords vs c)
   unfolding callAnswer callWords
@@ -294,6 +319,7 @@ module _ {w : ℕ} {us vs : List ℕ} (s : Same w us vs) where
   service-same (Called c) h = call-same c h
   service-same Round h = round-same
   service-same (Settle limit) h = settle-same limit
+  service-same (SettleAt hs ts) h = settle-at-same hs ts
 
   -- the calls that are not in the list
 

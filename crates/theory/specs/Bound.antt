@@ -1,5 +1,5 @@
 -- Settle's bound, stated (document 02, Req 05): how many rounds make every sound table ideal. With model this is all that its reader must believe; BoundProof proves it.
-use Prim.Native.Nat.{ℕ, zero, suc, _+_, _-_, _*_, _≤_}
+use Prim.Native.Nat.{ℕ, zero, suc, _+_, _-_, _*_, _≤_, _<_}
 use mathlib.Core.Path.{_≡_}
 use mathlib.Core.Bool.{Bool, true, false}
 use mathlib.Core.List.{List, [], _∷_}
@@ -7,11 +7,11 @@ use lib.ListN.{length, getD, drop}
 use Rattle.model.specs.Lists.{every}
 use Rattle.model.specs.Table.{Table, size, tableOf, membersIn, formed, wellFormed}
 use Rattle.model.specs.Ring.{live, principals, sound, verdict, passedByAll}
-use Rattle.model.specs.Answer.{accepted}
+use Rattle.model.specs.Answer.{Answer, accepted}
 use Rattle.model.specs.Steps.{uncounted, stabilized}
 use Rattle.model.specs.Settle.{isDone, lastStep, finished, afterTurn}
-use Rattle.model.specs.Calls.{roundAnswer, roundWords, settleAnswer, settleWords}
-use Rattle.model.specs.Service.{Service, Called, Round, Settle, serviceWords, served}
+use Rattle.model.specs.Calls.{roundAnswer, roundWords, settleAnswer, settleWords, settleAtAnswer}
+use Rattle.model.specs.Service.{Service, Called, Round, Settle, SettleAt, serviceWords, served}
 
 -- members - principals + r: the rounds that are enough, by the audit's own numbers
 abbrev pub enough : List ℕ → ℕ
@@ -47,37 +47,43 @@ document02 ws = 2 * length (membersIn ws) * length (membersIn ws) + tableOf ws .
 abbrev pub EnoughIsFew : Type 0
 EnoughIsFew = (ws : List ℕ) → sound (tableOf ws) ≡ true → enough ws ≤ oneLess ws
 
--- settle with the limit reports verdict 2, after at most `enough` rounds, and what all members of the table as it began pass over; and 2 is the verdict then
-pub record Ends (ws : List ℕ) (limit : ℕ) : Type 0 where
+-- from ws the answer a and the slice us are those of a settle that ends: it reports verdict 2, after at most `enough` rounds, and what all members of the table as
+-- it began pass over; and 2 is the verdict then
+pub record Ends (ws : List ℕ) (a : Answer) (us : List ℕ) : Type 0 where
   pub rounds-run : ℕ
   pub few : rounds-run ≤ enough ws
-  pub reports : settleAnswer ws limit ≡ accepted (rounds-run ∷ 2 ∷ passedByAll (membersIn ws) ∷ [])
-  pub leaves-2 : verdict (tableOf (settleWords ws limit)) ≡ 2
+  pub reports : a ≡ accepted (rounds-run ∷ 2 ∷ passedByAll (membersIn ws) ∷ [])
+  pub leaves-2 : verdict (tableOf us) ≡ 2
 
 -- so it does on every sound table, with so high a limit
 abbrev pub SettleEnds : (List ℕ → ℕ) → Type 0
-SettleEnds bound = (ws : List ℕ) → wellFormed ws ≡ true → sound (tableOf ws) ≡ true → (limit : ℕ) → bound ws ≤ limit → Ends ws limit
+SettleEnds bound = (ws : List ℕ) → wellFormed ws ≡ true → sound (tableOf ws) ≡ true → (limit : ℕ) → bound ws ≤ limit → Ends ws (settleAnswer ws limit) (settleWords ws limit)
 
--- whatever the limit: settle leaves the slice that as many rounds leave as it reports, and reports the verdict of that slice
-pub record Leaves (ws : List ℕ) (limit : ℕ) : Type 0 where
+-- whatever the limit: us is the slice that as many rounds leave as a reports, and a reports its verdict; each round was run on another verdict than 2, and where
+-- they are fewer than the limit, it is 2
+pub record Leaves (ws : List ℕ) (limit : ℕ) (a : Answer) (us : List ℕ) : Type 0 where
   pub rounds-run : ℕ
   pub few : rounds-run ≤ limit
-  pub leaves : settleWords ws limit ≡ rounds rounds-run ws
-  pub reports : settleAnswer ws limit ≡ accepted (rounds-run ∷ verdict (tableOf (settleWords ws limit)) ∷ passedByAll (membersIn ws) ∷ [])
+  pub leaves : us ≡ rounds rounds-run ws
+  pub reports : a ≡ accepted (rounds-run ∷ verdict (tableOf us) ∷ passedByAll (membersIn ws) ∷ [])
+  pub none-ideal : (j : ℕ) → j < rounds-run → verdict (tableOf (rounds j ws)) ≡ 2 → ⊥
+  pub early-ideal : rounds-run < limit → verdict (tableOf us) ≡ 2
 
 abbrev pub SettleLeaves : Type 0
-SettleLeaves = (ws : List ℕ) → wellFormed ws ≡ true → sound (tableOf ws) ≡ true → (limit : ℕ) → Leaves ws limit
+SettleLeaves = (ws : List ℕ) → wellFormed ws ≡ true → sound (tableOf ws) ≡ true → (limit : ℕ) → Leaves ws limit (settleAnswer ws limit) (settleWords ws limit)
 
--- rounds and settles, one after the other: how many rounds each of them runs, settle as many as it reports; and all of them together
+-- rounds and settles, with windows too, one after the other: how many rounds each of them runs, settle as many as it reports; and all of them together
 abbrev pub isUpkeep : Service → Bool
 isUpkeep (Called c) = false
 isUpkeep Round = true
 isUpkeep (Settle limit) = true
+isUpkeep (SettleAt vs ts) = true
 
 abbrev pub roundsBy : List ℕ → Service → ℕ
 roundsBy ws (Called c) = 0
 roundsBy ws Round = 1
 roundsBy ws (Settle limit) = getD (settleAnswer ws limit .values) 0 0
+roundsBy ws (SettleAt vs ts) = getD (settleAtAnswer ws vs ts .values) 0 0
 
 abbrev pub roundsIn : List Service → List ℕ → ℕ
 roundsIn [] ws = 0

@@ -2,7 +2,7 @@
 use mathlib.Core.Path.{_≡_, refl, sym, ap, ap₂, subst, _∙_}
 use mathlib.Core.Bool.{Bool, true, false, not, false≢true}
 use mathlib.Core.List.{List, [], _∷_}
-use Prim.Native.Nat.{ℕ, zero, suc, _+_, _-_, _*_, _≤_}
+use Prim.Native.Nat.{ℕ, zero, suc, _+_, _-_, _*_, _≤_, _<_}
 use native.Mathlib.Omega.{arith}
 use lib.Dec.{eqb}
 use lib.ListN.{length, getD, take, drop}
@@ -14,13 +14,14 @@ use Rattle.model.specs.Answer.{Answer, accepted}
 use Rattle.model.specs.Steps.{uncounted}
 use Rattle.model.specs.New.{newTable}
 use Rattle.model.specs.Settle.{afterRound, afterRounds, roundsRun, afterSettle, settleReply}
-use Rattle.model.specs.Calls.{written, roundAnswer, roundWords, settleAnswer, settleWords}
+use Rattle.model.specs.Calls.{written, roundAnswer, roundWords, settleAnswer, settleWords, settleAtAnswer, settleAtWords}
 use Rattle.model.specs.Fold.{afterAll}
-use Rattle.model.specs.Service.{Service, Called, Round, Settle, serviceWords, served}
+use Rattle.model.specs.Service.{Service, Called, Round, Settle, SettleAt, serviceWords, served}
 use Rattle.laws.specs.Lists.{In, found, live-in, length-ids, any-in, count-any, count-length, count-not}
 use Rattle.laws.specs.Accepted.{settle-accepts}
 use Rattle.laws.specs.Words.{written-same, written-rest, written-over}
 use Rattle.laws.specs.Uncounted.{ideal-uncounted}
+use Rattle.laws.specs.Windows.{settle-at-has}
 use Rattle.laws.specs.Tables.{formed-facts, wellFormed-facts, sound-facts, facts-sound, formed-lists}
 use Rattle.theory.specs.Bound.{enough, rounds, AtRest, SettlesAfter, oneLess, mostRounds, document02, EnoughIsFew, SettleEnds, SettleLeaves, isUpkeep, roundsIn, UpkeepSettles, StepsEnd}
 use Rattle.theory.specs.Keep.{Kept}
@@ -253,6 +254,22 @@ runs-few (suc limit) T = go (eqb (verdict T) 2) (runs-few limit (afterRound T))
     go true h = omega arith
     go false h = omega arith
 
+-- before each of them the verdict is another, and after fewer than the limit it is 2
+runs-stop : (limit : ℕ) (T : Table) → ((j : ℕ) → j < roundsRun limit T → verdict (afterRounds j T) ≡ 2 → ⊥) × (roundsRun limit T < limit → verdict (afterSettle limit T) ≡ 2)
+runs-stop zero T = (λ j h v. omega arith, λ h. absurd (omega arith))
+runs-stop (suc limit) T = go (eqb (verdict T) 2) refl (runs-stop limit (afterRound T))
+  where
+    go : (b : Bool) → eqb (verdict T) 2 ≡ b →
+        ((j : ℕ) → j < roundsRun limit (afterRound T) → verdict (afterRounds j (afterRound T)) ≡ 2 → ⊥) × (roundsRun limit (afterRound T) < limit → verdict (afterSettle limit (afterRound T)) ≡ 2) →
+        ((j : ℕ) → j < (if b then 0 else suc (roundsRun limit (afterRound T))) → verdict (afterRounds j T) ≡ 2 → ⊥)
+        × ((if b then 0 else suc (roundsRun limit (afterRound T))) < suc limit → verdict (afterRounds (if b then 0 else suc (roundsRun limit (afterRound T))) T) ≡ 2)
+    go true q ih = (λ j h v. omega arith, λ h. eqb-true _ 2 q)
+    go false q ih = (before, λ h. ih .1 (omega arith))
+      where
+        before : (j : ℕ) → j < suc (roundsRun limit (afterRound T)) → verdict (afterRounds j T) ≡ 2 → ⊥
+        before zero h v = eqb-false _ 2 q v
+        before (suc j) h v = ih .0 j (omega arith) v
+
 -- what settle replies and leaves
 module _ (ws : List ℕ) (s : Good ws) (limit : ℕ) where
   settle-replies : settleAnswer ws limit ≡ accepted (settleReply limit (tableOf ws))
@@ -266,18 +283,36 @@ module _ (ws : List ℕ) (s : Good ws) (limit : ℕ) where
   settle-table : tableOf (settleWords ws limit) ≡ afterSettle limit (tableOf ws)
   settle-table = ap tableOf settle-is ∙ rounds-slice (roundsRun limit (tableOf ws)) ws s .1
 
+  pub settle-rounds : settleWords ws limit ≡ rounds (roundsRun limit (tableOf ws)) ws
+  settle-rounds = settle-is ∙ sym (rounds-are (roundsRun limit (tableOf ws)) ws s)
+
 pub settle-leaves : SettleLeaves
 settle-leaves ws wf so limit =
     let s : Good ws = record { well-formed = wf; is-sound = so } in
     let n = roundsRun limit (tableOf ws) in
+    let e = runs-stop limit (tableOf ws) in
     record {
       rounds-run = n;
       few = runs-few limit (tableOf ws);
-      leaves = settle-is ws s limit ∙ sym (rounds-are n ws s);
+      leaves = settle-rounds ws s limit;
       reports = settle-replies ws s limit ∙ ap (λ (v : ℕ). accepted (n ∷ v ∷ passedByAll (membersIn ws) ∷ [])) (ap verdict (sym (settle-table ws s limit)));
+      none-ideal = λ j h v. e .0 j h (ap verdict (sym (after-rounds j ws s .1)) ∙ v);
+      early-ideal = λ h. ap verdict (settle-table ws s limit) ∙ e .1 h;
     }
 
 -- rounds and settles run rounds
+
+-- settle, if what comes after it is rounds and settles
+settle-on : (limit : ℕ) (ss : List Service) (ws : List ℕ) → Good ws
+    → ((us : List ℕ) → Good us → afterAll serviceWords ss us ≡ written (afterRounds (roundsIn ss us) (tableOf us)) us)
+    → afterAll serviceWords ss (settleWords ws limit) ≡ written (afterRounds (getD (settleAnswer ws limit .values) 0 0 + roundsIn ss (settleWords ws limit)) (tableOf ws)) ws
+settle-on limit ss ws s rest =
+    let n = roundsRun limit (tableOf ws) in
+    let m = roundsIn ss (settleWords ws limit) in
+    let e : n + m ≡ getD (settleAnswer ws limit .values) 0 0 + m = ap (λ (a : Answer). getD (a .values) 0 0 + m) (sym (settle-replies ws s limit)) in
+    rest (settleWords ws limit) (rw (settle-is ws s limit) (rounds-slice n ws s .0))
+    ∙ ap (λ (us : List ℕ). written (afterRounds m (tableOf us)) us) (settle-is ws s limit) ∙ rounds-on n m _ ws s e
+
 upkeep-is : (ss : List Service) (ws : List ℕ) → Good ws → every isUpkeep ss ≡ true → afterAll serviceWords ss ws ≡ written (afterRounds (roundsIn ss ws) (tableOf ws)) ws
 unfolding serviceWords
 upkeep-is [] ws s h = let f = wellFormed-facts ws (s .well-formed) in sym (written-same ws (f .own-header) (f .fits))
@@ -285,12 +320,11 @@ upkeep-is (Called c ∷ ss) ws s h = absurd (false≢true h)
 upkeep-is (Round ∷ ss) ws s h = upkeep-is ss (roundWords ws) (round-slice ws s) h
     ∙ ap (λ (us : List ℕ). written (afterRounds (roundsIn ss (roundWords ws)) (tableOf us)) us) (round-is ws s)
     ∙ rounds-on 1 (roundsIn ss (roundWords ws)) (roundsIn (Round ∷ ss) ws) ws s (omega arith)
-upkeep-is (Settle limit ∷ ss) ws s h =
-    let n = roundsRun limit (tableOf ws) in
-    let m = roundsIn ss (settleWords ws limit) in
-    let e : n + m ≡ getD (settleAnswer ws limit .values) 0 0 + m = ap (λ (a : Answer). getD (a .values) 0 0 + m) (sym (settle-replies ws s limit)) in
-    upkeep-is ss (settleWords ws limit) (rw (settle-is ws s limit) (rounds-slice n ws s .0)) h
-    ∙ ap (λ (us : List ℕ). written (afterRounds m (tableOf us)) us) (settle-is ws s limit) ∙ rounds-on n m _ ws s e
+upkeep-is (Settle limit ∷ ss) ws s h = settle-on limit ss ws s (λ us g. upkeep-is ss us g h)
+upkeep-is (SettleAt vs ts ∷ ss) ws s h =
+    settle-at-has (λ a us. afterAll serviceWords ss us ≡ written (afterRounds (getD (a .values) 0 0 + roundsIn ss us) (tableOf ws)) ws) ws vs ts
+    (settle-on _ ss ws s (λ us g. upkeep-is ss us g h))
+    (λ k. let q : roundsIn ss ws ≡ 0 + roundsIn ss ws = omega arith in upkeep-is ss ws s h ∙ ap (λ (n : ℕ). written (afterRounds n (tableOf ws)) ws) q)
 
 pub upkeep-settles : UpkeepSettles enough
 unfolding served

@@ -10,11 +10,12 @@ use Rattle.model.specs.Table.{Table, wordLimit, tableOf, membersIn, ids, formed
 use Rattle.model.specs.Ring.{live, named, isPending, sound}
 use Rattle.model.specs.Steps.{stabilized}
 use Rattle.model.specs.Settle.{isDone, finished, afterTurn, afterRound, roundsRun}
+use Rattle.model.specs.Windows.{windowsIn, roundsAt}
 use Rattle.model.specs.Refusals.{joinRefusal, newRefusal}
 use Rattle.model.specs.Calls.{joinWords, stabilizeWords, newWords, roundWords, settleAnswer, settleWords}
 use Rattle.model.specs.Fold.{eachMeets}
 use Rattle.model.specs.Run.{Call, Join, Leave, Fail, Stabilize, Rectify, Lookup, Audit, callWords, run, accepts}
-use Rattle.model.specs.Service.{Service, Called, Round, Settle, serviceAnswer, serviceWords, served}
+use Rattle.model.specs.Service.{Service, Called, Round, Settle, SettleAt, serviceAnswer, serviceWords, served}
 
 -- the step count of the member n in a slice
 abbrev pub stepsOf : List ℕ → ℕ → ℕ
@@ -63,6 +64,7 @@ abbrev pub stepsBy : ℕ → Table → Service → ℕ
 stepsBy n T (Called c) = stepsByCall n c
 stepsBy n T Round = stepsInRound n T
 stepsBy n T (Settle limit) = stepsInRounds n (roundsRun limit T) T
+stepsBy n T (SettleAt vs ts) = stepsInRounds n (roundsAt (windowsIn vs) ts T) T
 
 -- Lists of calls, of any kind: next is the slice after one
 module _ {C : Type 0} (next : List ℕ → C → List ℕ) where

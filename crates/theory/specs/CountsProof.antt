@@ -16,16 +16,17 @@ use Rattle.model.specs.Answer.{afterwards}
 use Rattle.model.specs.Steps.{joiner, joined, stabilize, nextStep, countStep, stabilized, rectifyIn, rectified, isNamed, without}
 use Rattle.model.specs.New.{newTable}
 use Rattle.model.specs.Settle.{delivered, isDone, lastStep, finished, untilDone, afterTurn, afterTurns, afterRound, afterRounds, roundsRun}
-use Rattle.model.specs.Refusals.{joinRefusal, memberRefusal, leaveRefusal, settleRefusal}
-use Rattle.model.specs.Calls.{written, writtenFreed, joinWords, stabilizeAnswer, stabilizeWords, rectifyWords, failWords, leaveWords, newWords, roundAnswer, roundWords, settleAnswer, settleWords}
+use Rattle.model.specs.Windows.{windowsIn, roundsAt}
+use Rattle.model.specs.Refusals.{joinRefusal, memberRefusal, leaveRefusal, settleRefusal, settleAtRefusal}
+use Rattle.model.specs.Calls.{written, writtenFreed, joinWords, stabilizeAnswer, stabilizeWords, rectifyWords, failWords, leaveWords, newWords, roundAnswer, roundWords, settleAnswer, settleWords, settleAtAnswer, settleAtWords}
 use Rattle.model.specs.Fold.{afterAll, eachMeets}
 use Rattle.model.specs.Run.{Call, Join, Leave, Fail, Stabilize, Rectify, Lookup, Audit, callAnswer, callWords, run, accepts}
-use Rattle.model.specs.Service.{Service, Called, Round, Settle, serviceAnswer, serviceWords, served}
+use Rattle.model.specs.Service.{Service, Called, Round, Settle, SettleAt, serviceAnswer, serviceWords, served}
 use Rattle.laws.specs.Order.{equal?, less?}
 use Rattle.laws.specs.Iterate.{iterate, iterate-add}
 use Rattle.laws.specs.Lists.{In, here, there, in-cons, in-nil, and-true, found, live-in, in-live, NoDup, rising-nodup}
 use Rattle.laws.specs.Places.{next-ups-length}
-use Rattle.laws.specs.Accepted.{answer-number, afterwards-has, join-accepted, member-table, member-accepted, leave-accepted, settle-accepted, settle-accepts}
+use Rattle.laws.specs.Accepted.{answer-number, afterwards-has, join-accepted, member-table, member-accepted, leave-accepted, settle-accepted, settle-accepts, settle-at-accepted}
 use Rattle.laws.specs.Stabilize.{same-id, same-steps}
 use Rattle.laws.specs.Rectify.{rectify-same}
 use Rattle.laws.specs.Words.{written-table}
@@ -346,12 +347,16 @@ module _ (n : ℕ) (ws : List ℕ) where
 
   service-count : (s : Service) → live (membersIn ws) n ≡ true → live (membersIn (serviceWords ws s)) n ≡ true
       → stepsOf (serviceWords ws s) n ≡ iterate nextStep (if eqb (serviceAnswer ws s .number) 0 then stepsBy n (tableOf ws) s else 0) (stepsOf ws n)
-  unfolding serviceWords serviceAnswer roundWords roundAnswer settleWords settleAnswer
+  unfolding serviceWords serviceAnswer roundWords roundAnswer settleWords settleAnswer settleAtWords settleAtAnswer
   service-count (Called c) l k = call-count c l k
   service-count Round l k = rw (answer-number (settleRefusal ws)) (rounds-count 1 (settleRefusal ws) (stepsInRound n (tableOf ws)) (λ e. e) (seen-round n (tableOf ws)))
   service-count (Settle limit) l k =
       let j = roundsRun limit (tableOf ws) in
       rw (answer-number (settleRefusal ws)) (rounds-count j (settleRefusal ws) (stepsInRounds n j (tableOf ws)) (λ e. e) (seen-rounds n j (tableOf ws)))
+  service-count (SettleAt vs ts) l k =
+      let j = roundsAt (windowsIn vs) ts (tableOf ws) in
+      rw (answer-number (settleAtRefusal ws vs ts))
+      (rounds-count j (settleAtRefusal ws vs ts) (stepsInRounds n j (tableOf ws)) (λ e. settle-at-accepted ws vs ts e .0) (seen-rounds n j (tableOf ws)))
 
 -- so many rounds of a sound table add so much to each count
 module _ (ws : List ℕ) (w : wellFormed ws ≡ true) (s : sound (tableOf ws) ≡ true) (n : ℕ) (l : live (membersIn ws) n ≡ true) where

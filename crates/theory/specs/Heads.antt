@@ -13,13 +13,15 @@ use Rattle.model.specs.Ring.{live, named, successor, principal, Search, bestSuc
 use Rattle.model.specs.Answer.{Answer, accepted, answer, afterwards}
 use Rattle.model.specs.Steps.{joiner, inserted, joined, stabilize, stabilizeReply, stabilized, replaced, rectifyIn, rectified, countStep}
 use Rattle.model.specs.Settle.{afterRound, afterRounds, roundsRun}
+use Rattle.model.specs.Windows.{windowsIn, openMinutes}
 use Rattle.model.specs.Refusals.{joinRefusal, memberRefusal, leaveRefusal, settleRefusal}
 use Rattle.model.specs.Calls.{written, joinAnswer, joinWords, stabilizeAnswer, stabilizeWords, rectifyWords, failAnswer, failWords, leaveAnswer, leaveWords, roundWords, settleWords}
 use Rattle.model.specs.Run.{Call, Join, Leave, Fail, Stabilize, Rectify, Lookup, Audit, callAnswer, callWords, accepts, goes}
-use Rattle.model.specs.Service.{Service, Called, Round, Settle, serviceWords, served, goesService, noneGoes}
+use Rattle.model.specs.Service.{Service, Called, Round, Settle, SettleAt, serviceWords, served, goesService, noneGoes}
 use Rattle.laws.specs.Fold.{all-keep}
 use Rattle.laws.specs.Lists.{In, found, live-in, in-live}
 use Rattle.laws.specs.Accepted.{answer-number, afterwards-has, join-accepted, member-table, member-accepted, settle-accepted}
+use Rattle.laws.specs.Windows.{settle-at-has}
 use Rattle.laws.specs.Tables.{wellFormed-facts, formed-lists}
 use Rattle.laws.specs.Stabilize.{StepCase, takes, clears, drops, looks, settles, step-case, same-id}
 use Rattle.laws.specs.Words.{written-table}
@@ -185,6 +187,7 @@ unfolding serviceWords goesService roundWords settleWords
 service-headed n (Called c) ws g h = call-headed c ws n h g
 service-headed n Round ws g h = upkeep-headed ws n h 1
 service-headed n (Settle limit) ws g h = upkeep-headed ws n h (roundsRun limit (tableOf ws))
+service-headed n (SettleAt vs ts) ws g h = settle-at-has (λ a us. Has n us) ws vs ts (upkeep-headed ws n h (roundsRun (openMinutes (windowsIn vs) ts) (tableOf ws))) (λ k. h)
 
 served-headed : (ss : List Service) (ws : List ℕ) (n : ℕ) → Has n ws → noneGoes ss ws ≡ true → Has n (served ss ws)
 unfolding served noneGoes

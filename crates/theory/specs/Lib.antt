@@ -28,6 +28,8 @@ pub mod Rounds
 pub mod Far
 pub mod Right
 pub mod BoundProof
+pub mod Windows
+pub mod WindowsProof
 pub mod Counts
 pub mod CountsProof
 pub mod Alike

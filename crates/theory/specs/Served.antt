@@ -1,4 +1,4 @@
--- Demand 3's claim for lists in which rounds and settles stand among the seven calls: the ring never splits.
+-- Demand 3's claim for lists in which rounds and settles, with windows too, stand among the seven calls: the ring never splits.
 use mathlib.Core.Path.{_≡_, refl, ap, _∙_}
 use mathlib.Core.Bool.{true}
 use mathlib.Core.List.{List}
@@ -9,10 +9,12 @@ use Rattle.model.specs.Table.{spaceOf, tableOf, wellFormed}
 use Rattle.model.specs.Ring.{sound}
 use Rattle.model.specs.Answer.{afterwards}
 use Rattle.model.specs.Settle.{afterRound, afterRounds, afterSettle, roundsRun}
+use Rattle.model.specs.Windows.{windowsIn, openMinutes}
 use Rattle.model.specs.Refusals.{settleRefusal}
 use Rattle.model.specs.Calls.{written, roundWords, settleWords}
-use Rattle.model.specs.Service.{Service, Called, Round, Settle, identifiersOf, serviceWords, served, grantedService, grantedAll}
+use Rattle.model.specs.Service.{Service, Called, Round, Settle, SettleAt, identifiersOf, serviceWords, served, grantedService, grantedAll}
 use Rattle.laws.specs.Accepted.{afterwards-has}
+use Rattle.laws.specs.Windows.{settle-at-has}
 use Rattle.theory.specs.Claim.{Holds}
 use Rattle.theory.specs.Static.{holds}
 use Rattle.theory.specs.Runs.{Good, good-kept, call-good, call-space, all-good}
@@ -40,6 +42,7 @@ unfolding serviceWords grantedService
 service-good (Called c) ws h e g = call-good c ws h e g
 service-good Round ws h e g = round-good ws g
 service-good (Settle limit) ws h e g = settle-good ws limit g
+service-good (SettleAt vs ts) ws h e g = settle-at-has (λ a us. Good us) ws vs ts (settle-good ws _ g) (λ k. g)
 
 -- nor do they change the space
 rounds-space : (j k : ℕ) (ws : List ℕ) → Good ws → spaceOf (tableOf (afterwards k (written (afterRounds j (tableOf ws)) ws) ws)) ≡ spaceOf (tableOf ws)
@@ -51,6 +54,8 @@ unfolding serviceWords roundWords settleWords
 service-space (Called c) ws g = call-space c ws
 service-space Round ws g = rounds-space 1 (settleRefusal ws) ws g
 service-space (Settle limit) ws g = rounds-space (roundsRun limit (tableOf ws)) (settleRefusal ws) ws g
+service-space (SettleAt vs ts) ws g = settle-at-has (λ a us. spaceOf (tableOf us) ≡ spaceOf (tableOf ws)) ws vs ts
+    (rounds-space (roundsRun (openMinutes (windowsIn vs) ts) (tableOf ws)) (settleRefusal ws) ws g) (λ k. refl)
 
 served-good : (ss : List Service) (ws : List ℕ) → ServiceStarts ss ws → Good (served ss ws)
 unfolding served grantedAll

@@ -1,5 +1,6 @@
 -- `settle` meets its contract: declined it writes nothing. Assumes nothing.
 use borrow.Author.Needs.{needs}
+use Rattle.model.specs.Refusals.{settleRefusal}
 use Rattle.model.specs.Calls.{settleAnswer, settleWords}
 use Rattle.settle.specs.Begun.{Begins}
 use Rattle.settle.specs.declared.Begun.the-variants.{Passed}
@@ -10,7 +11,7 @@ use Rattle.settle.proofs.settle.Tie as tie
 abbrev start : tie.After-begun-of → tie.Start
 start b = b .before .before .before
 
-begins : (c : tie.After-passed) → Begins (start (c .before .before) .args .t .now) (Passed (c .passed .given .0 .0))
+begins : (c : tie.After-passed) → let ws = start (c .before .before) .args .t .now in Begins (settleRefusal ws) ws (Passed (c .passed .given .0 .0))
 begins c = rw (c .passed .given .1) at (c .before .before .begun-of .ensures)
 
 rounds-of-requires : tie.Need-rounds-of-requires

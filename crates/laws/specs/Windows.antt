@@ -1,0 +1,158 @@
+-- Windows of the week: one window, a search for the first open minute, and settle with windows as settle whose limit is the open minutes. Assumes nothing.
+use mathlib.Core.Path.{_≡_, refl, sym, ap, ap₂, _∙_}
+use mathlib.Core.Logic.{_⊎_, inl, inr}
+use mathlib.Core.Bool.{Bool, true, false, not, _&&_}
+use mathlib.Core.List.{List, [], _∷_}
+use mathlib.Core.Option.{Option, some, none}
+use Prim.Native.Nat.{ℕ, zero, suc, _+_, _≤_, _<_}
+use native.Mathlib.Omega.{arith}
+use lib.Dec.{ltb, leb, eqb}
+use borrow.Author.Tests.{ltb-true, leb-true, eqb-false, not-true, lt-ltb, le-ltb, le-leb, lt-leb}
+use Rattle.model.specs.Lists.{if_then_else_, bit}
+use Rattle.model.specs.Table.{Table, tableOf}
+use Rattle.model.specs.Ring.{verdict}
+use Rattle.model.specs.Answer.{Answer, accepted, declined, answer, afterwards}
+use Rattle.model.specs.Settle.{afterRound, roundsRun, afterRounds, ranReply}
+use Rattle.model.specs.Windows.{Window, week, windowsIn, inWindow, isOpen, ofWeek, firstOpen, openMinutes, roundsAt, settleAtReply, afterSettleAt}
+use Rattle.model.specs.Refusals.{rightWindow, badWindows, badMinutes, settleRefusal, settleAtRefusal}
+use Rattle.model.specs.Calls.{written, settleAnswer, settleWords, settleAtAnswer, settleAtWords}
+use Rattle.laws.specs.Lists.{and-true}
+use Rattle.laws.specs.Order.{less?}
+use Rattle.laws.specs.Accepted.{settle-at-left, settle-at-accepted}
+
+-- One window
+
+pub record RightWindow (w : Window) : Type 0 where
+  pub ends-differ : w .start ≡ w .end → ⊥
+  pub start-low : w .start < week
+  pub end-low : w .end < week
+
+pub right-window : (w : Window) → rightWindow w ≡ true → RightWindow w
+unfolding rightWindow
+right-window w h =
+    let a = and-true (not (eqb (w .start) (w .end)) && ltb (w .start) week) (ltb (w .end) week) h in
+    let b = and-true (not (eqb (w .start) (w .end))) (ltb (w .start) week) (a .0) in
+    record { ends-differ = eqb-false _ _ (not-true _ (b .0)); start-low = ltb-true _ _ (b .1); end-low = ltb-true _ _ (a .1) }
+
+-- the minute is in the window, or it is not: by comparisons
+pub data Held (m s e : ℕ) : Type 0 where
+  inside : s ≤ m → m < e → s ≤ e → Held m s e
+  late : e < s → s ≤ m → Held m s e
+  early : e < s → m < e → Held m s e
+
+pub data Shut (m s e : ℕ) : Type 0 where
+  before : s ≤ e → m < s → Shut m s e
+  behind : s ≤ e → e ≤ m → Shut m s e
+  amid : e < s → e ≤ m → m < s → Shut m s e
+
+module _ (m : ℕ) (w : Window) where
+  pub held-open : Held m (w .start) (w .end) → inWindow m w ≡ true
+  unfolding inWindow
+  held-open (inside a b c) = rw (le-ltb (w .end) (w .start) c, le-leb (w .start) m a, lt-ltb m (w .end) b)
+  held-open (late a b) = rw (lt-ltb (w .end) (w .start) a, le-leb (w .start) m b)
+  held-open (early a b) = let d : m < w .start = omega arith in rw (lt-ltb (w .end) (w .start) a, lt-leb (w .start) m d, lt-ltb m (w .end) b)
+
+  pub shut-closed : Shut m (w .start) (w .end) → inWindow m w ≡ false
+  unfolding inWindow
+  shut-closed (before a b) = rw (le-ltb (w .end) (w .start) a, lt-leb (w .start) m b)
+  shut-closed (behind a b) = let d : w .start ≤ m = omega arith in rw (le-ltb (w .end) (w .start) a, le-leb (w .start) m d, le-ltb m (w .end) b)
+  shut-closed (amid a b c) = rw (lt-ltb (w .end) (w .start) a, lt-leb (w .start) m c, le-ltb m (w .end) b)
+
+  pub held? : Held m (w .start) (w .end) ⊎ Shut m (w .start) (w .end)
+  held? = go (less? (w .end) (w .start)) (less? m (w .start)) (less? m (w .end))
+    where
+      go : (w .end < w .start) ⊎ (w .start ≤ w .end) → (m < w .start) ⊎ (w .start ≤ m) → (m < w .end) ⊎ (w .end ≤ m) → Held m (w .start) (w .end) ⊎ Shut m (w .start) (w .end)
+      go (inl a) (inl b) (inl c) = inl (early a c)
+      go (inl a) (inl b) (inr c) = inr (amid a c b)
+      go (inl a) (inr b) c = inl (late a b)
+      go (inr a) (inl b) c = inr (before a b)
+      go (inr a) (inr b) (inl c) = inl (inside b c a)
+      go (inr a) (inr b) (inr c) = inr (behind a c)
+
+-- Searches
+
+-- i minutes after t it is open, and no minute from t up to then is
+pub record OpenAhead (ws : List Window) (t i : ℕ) : Type 0 where
+  pub is-open : isOpen ws (ofWeek (t + i)) ≡ true
+  pub none-before : (j : ℕ) → j < i → isOpen ws (ofWeek (t + j)) ≡ false
+
+module _ (ws : List Window) where
+  -- the same minute, said in another way
+  told-of : (b : Bool) {x y : ℕ} → x ≡ y → isOpen ws (ofWeek x) ≡ b → isOpen ws (ofWeek y) ≡ b
+  told-of b e h = ap (λ (k : ℕ). isOpen ws (ofWeek k)) (sym e) ∙ h
+
+  -- what a search of k minutes finds: the first open minute that is so near, and none where all are closed
+  pub finds : (k t i : ℕ) → i < k → OpenAhead ws t i → firstOpen ws k t ≡ some (ofWeek (t + i))
+  unfolding firstOpen
+  finds zero t i h a = absurd (omega arith)
+  finds (suc k) t zero h a =
+      let e : t + 0 ≡ t = omega arith in
+      rw (told-of true e (a .is-open)) (ap (λ (x : ℕ). some (ofWeek x)) (sym e))
+  finds (suc k) t (suc i) h a =
+      let z : t + 0 ≡ t = omega arith in
+      let e : suc t + i ≡ t + suc i = omega arith in
+      rw (told-of false z (a .none-before 0 (omega arith)))
+      (finds k (suc t) i (omega arith) (record {
+        is-open = told-of true (sym e) (a .is-open);
+        none-before = λ j l. told-of false {x = t + suc j} (omega arith) (a .none-before (suc j) (omega arith));
+      }) ∙ ap (λ (x : ℕ). some (ofWeek x)) e)
+
+  pub finds-none : (k t : ℕ) → ((j : ℕ) → j < k → isOpen ws (ofWeek (t + j)) ≡ false) → firstOpen ws k t ≡ none
+  unfolding firstOpen
+  finds-none zero t h = refl
+  finds-none (suc k) t h =
+      let z : t + 0 ≡ t = omega arith in
+      rw (told-of false z (h 0 (omega arith))) (finds-none k (suc t) (λ j l. told-of false {x = t + suc j} (omega arith) (h (suc j) (omega arith))))
+
+  -- and so it is one of the two
+  pub search-ends : (k t : ℕ) → ((i : ℕ) × (i < k) × OpenAhead ws t i) ⊎ ((j : ℕ) → j < k → isOpen ws (ofWeek (t + j)) ≡ false)
+  search-ends zero t = inr (λ j l. absurd (omega arith))
+  search-ends (suc k) t = go (isOpen ws (ofWeek t)) refl (search-ends k (suc t))
+    where
+      from : {n : ℕ} → isOpen ws (ofWeek t) ≡ false → ((j : ℕ) → j < n → isOpen ws (ofWeek (suc t + j)) ≡ false) → (j : ℕ) → j < suc n → isOpen ws (ofWeek (t + j)) ≡ false
+      from e h zero l = told-of false {x = t} (omega arith) e
+      from e h (suc j) l = told-of false {x = suc t + j} (omega arith) (h j (omega arith))
+
+      go : (b : Bool) → isOpen ws (ofWeek t) ≡ b → ((i : ℕ) × (i < k) × OpenAhead ws (suc t) i) ⊎ ((j : ℕ) → j < k → isOpen ws (ofWeek (suc t + j)) ≡ false)
+          → ((i : ℕ) × (i < suc k) × OpenAhead ws t i) ⊎ ((j : ℕ) → j < suc k → isOpen ws (ofWeek (t + j)) ≡ false)
+      go true e r = inl (0, omega arith, record { is-open = told-of true {x = t} (omega arith) e; none-before = λ j l. absurd (omega arith) })
+      go false e (inl (i, l, a)) = inl (suc i, omega arith, record { is-open = told-of true {x = suc t + i} (omega arith) (a .is-open); none-before = from e (a .none-before) })
+      go false e (inr h) = inr (from e h)
+
+-- Rounds: settle with windows runs as many as settle whose limit is the number of open minutes
+
+pub rounds-at : (ws : List Window) (ts : List ℕ) (T : Table) → roundsAt ws ts T ≡ roundsRun (openMinutes ws ts) T
+rounds-at ws [] T = refl
+rounds-at ws (t ∷ ts) T = go (isOpen ws (ofWeek t)) (rounds-at ws ts T) (rounds-at ws ts (afterRound T))
+  where
+    go : (b : Bool) → roundsAt ws ts T ≡ roundsRun (openMinutes ws ts) T → roundsAt ws ts (afterRound T) ≡ roundsRun (openMinutes ws ts) (afterRound T)
+        → (if b then (if eqb (verdict T) 2 then 0 else suc (roundsAt ws ts (afterRound T))) else roundsAt ws ts T) ≡ roundsRun (bit b + openMinutes ws ts) T
+    go true e f = let q : 1 + openMinutes ws ts ≡ suc (openMinutes ws ts) = omega arith in rw (q, f)
+    go false e f = let q : 0 + openMinutes ws ts ≡ openMinutes ws ts = omega arith in rw (q, e)
+
+-- so it answers and leaves what that settle does, on every slice, where 15 and 16 do not apply
+pub as-settle : (ws vs ts : List ℕ) → badWindows vs ≡ false → badMinutes ts ≡ false
+    → (settleAtAnswer ws vs ts ≡ settleAnswer ws (openMinutes (windowsIn vs) ts)) × (settleAtWords ws vs ts ≡ settleWords ws (openMinutes (windowsIn vs) ts))
+unfolding settleAtAnswer settleAtWords settleAnswer settleWords
+as-settle ws vs ts b m =
+    let e = settle-at-left ws vs ts b m in
+    let j = rounds-at (windowsIn vs) ts (tableOf ws) in (
+      ap₂ (λ (k n : ℕ). answer k (accepted (ranReply n (tableOf ws)))) e j,
+      ap₂ (λ (k n : ℕ). afterwards k (written (afterRounds n (tableOf ws)) ws) ws) e j,
+    )
+
+declines : (ws vs ts : List ℕ) (P : Answer → List ℕ → Type 0) (k : ℕ) → settleAtRefusal ws vs ts ≡ suc k → P (declined (suc k)) ws → P (settleAtAnswer ws vs ts) (settleAtWords ws vs ts)
+unfolding settleAtAnswer settleAtWords
+declines ws vs ts P k e h = rw e h
+
+-- what holds of that settle's answer and slice, and of each refusal with the slice as it was, holds of settle with windows
+pub settle-at-has : (P : Answer → List ℕ → Type 0) (ws vs ts : List ℕ) → P (settleAnswer ws (openMinutes (windowsIn vs) ts)) (settleWords ws (openMinutes (windowsIn vs) ts))
+    → ((k : ℕ) → P (declined (suc k)) ws) → P (settleAtAnswer ws vs ts) (settleAtWords ws vs ts)
+settle-at-has P ws vs ts h refused = go (settleAtRefusal ws vs ts) refl
+  where
+    go : (k : ℕ) → settleAtRefusal ws vs ts ≡ k → P (settleAtAnswer ws vs ts) (settleAtWords ws vs ts)
+    go zero e =
+        let a = settle-at-accepted ws vs ts e in
+        let q = as-settle ws vs ts (a .1) (a .2) in
+        rw (q .0, q .1) h
+    go (suc k) e = declines ws vs ts P k e (refused k)
