@@ -71,14 +71,19 @@
    ideal          each list is the next r members up, in order, and each predecessor is the next member down, both round
                   the end. A step may be pending all the same
    verdict        0 not sound, 1 sound, 2 sound and ideal: ring_audit tells it
+   minute         of the week: 0 to 10079, and after 10079 comes 0. Which time is minute 0, the caller decides
+   window         a start and an end, two different minutes of the week. It holds the start, the minutes after it, and not
+                  the end; where the end is below the start it runs over the week's end
+   open           a minute of the week that a window holds, else it is closed. A minute that is counted on from a week's
+                  start, over any number of weeks, is open where its remainder by 10080 is
 
 
    ONE RING
 
    The promise is about sequences of these calls, in any order and with any identifiers, refused ones included: ring_join,
-   ring_leave, ring_fail, ring_stabilize, ring_rectify, ring_round, ring_settle, ring_lookup and ring_audit. The other calls
-   that leave the table alone (those that take it as const) may stand anywhere among them. From a sound table every such
-   sequence leads to a sound table, as long as
+   ring_leave, ring_fail, ring_stabilize, ring_rectify, ring_round, ring_settle, ring_settle_at, ring_lookup and ring_audit.
+   The other calls that leave the table alone (those that take it as const, or take none) may stand anywhere among them. From
+   a sound table every such sequence leads to a sound table, as long as
      - each accepted ring_fail is one that ring_leave would have granted in its place, and
      - nobody else writes the table.
 
@@ -112,6 +117,17 @@
    ring_settle runs rounds until the verdict is 2 or its limit is reached. With a limit of 255 or more it always reports
    verdict 2, if it is not refused.
 
+   Keep service hours, where rounds are in the way of other work: windows say when they may run. With minute 0 at Monday 0:00,
+   the nights of the working days, 22:00 to 6:00, and all from Saturday 20:00 to Monday 6:00, over the week's end, are
+      const uint32_t hours[12] = {1320, 1800, 2760, 3240, 4200, 4680, 5640, 6120, 7080, 7560, 8400, 360};
+   ring_is_open(hours, 12, m) says 1 for m = 1320, 1799, 10079, 0 and 359, and 0 for 1319, 1800 and 360; ring_next_open says
+   1320 for 360, 1799 for 1799 and 8400 for 7560. With no window nothing is open; with {0, 1, 1, 0} every minute is.
+   ring_settle_at takes the minutes at which a round may run, counted on in later weeks: of {1290, 1320, 1350, 11400} it runs
+   none at the first, which is closed, and one at each of the others, the last a week after the second, until the verdict is
+   2. Or call it each minute, with a list of that one: rounds add up. Where it reports verdict 1, the open minutes were too
+   few. Go on with later ones: after minute t the next that is open is t + 1 + (n + RING_WEEK - m) % RING_WEEK, where m is
+   (t + 1) % RING_WEEK and n what ring_next_open says for m.
+
    Find a shelf that does not stabilize. Two readings of its step count, table[RING_STEPS(r, place)], tell whether it has
    taken a stabilize step in between: if they are equal, none; else as many as they differ by, or more where the second is
    4294967295. That holds if the first is below 4294967295, the shelf stayed a member, and the table was neither made anew by
@@ -128,12 +144,12 @@
    table is sound then. Where it is refused by 6 or 7, the verdict after ring_fail is 0. With little stack: ring_fail, and
    then ring_audit. From a sound table the verdict is 0 exactly where ring_leave would have been refused by 6 or 7.
 
-   On verdict 0 there is no promise. ring_round and ring_settle are refused (14). ring_findings tells which members never come
-   onto a ring: their moves are the member count. A ring_lookup that is refused by 8 names a member whose list is all dead.
-   Let each shelf take its turn, a few times, each bounded by r + 2 steps, and audit again: if the verdict comes back to 1 or
-   2, the promise holds from there on. Nothing says that it comes back. With fewer than r + 1 members turns alone never bring
-   it back; and a member whose list is all dead tries the identifiers after its last entry one by one, so that the next
-   member may be far. If it does not come back, start anew.
+   On verdict 0 there is no promise. ring_round, ring_settle and ring_settle_at are refused (14). ring_findings tells which
+   members never come onto a ring: their moves are the member count. A ring_lookup that is refused by 8 names a member whose
+   list is all dead. Let each shelf take its turn, a few times, each bounded by r + 2 steps, and audit again: if the verdict
+   comes back to 1 or 2, the promise holds from there on. Nothing says that it comes back. With fewer than r + 1 members turns
+   alone never bring it back; and a member whose list is all dead tries the identifiers after its last entry one by one, so
+   that the next member may be far. If it does not come back, start anew.
 
    Start anew. Copy the identifiers of the shelves that stay into a slice of their own, for slices may not overlap, and call
    ring_new with it; where they are fewer than r + 1, with a smaller r. ring_new takes two shelves at least.
@@ -145,7 +161,7 @@
    audit it. An image has no checksum: where the place it is kept may lose bytes, add one.
 
    Check a copy, after a controller swap for one. Lend the old controller's table and the new one's to ring_alike, as whole
-   slices, of equal length, as later calls get them; an image is read into such a slice first. 1: the nine calls that ONE RING
+   slices, of equal length, as later calls get them; an image is read into such a slice first. 1: the ten calls that ONE RING
    names, the same ones made on both from now on, answer the same on both. Step counts may differ, which words and images
    show: take both readings of a shelf's from the same table. 0: r, the members, or some member's predecessor, pending,
    candidate or list differ; the words, by the names below, show where. A call that one of the two has had since the copy may
@@ -165,7 +181,7 @@
    says are the reply, the others 0; or number is that of a refusal, and the rest is 0. Look at number before the values.
 
    Each call names its refusals in the order in which they are tried: the first that applies is given. That is the lowest
-   number, but ring_new tries 11 before 10, and ring_join 13 before 5.
+   number, but ring_new tries 11 before 10, ring_join 13 before 5, and ring_settle_at 15 and 16 before 14.
 
    Threads and interrupts. The calls are reentrant and have no memory of their own, static or from a heap. Different tables
    may be worked on at the same time from different threads; one table by one writer, or by any number of readers.
@@ -175,28 +191,21 @@
    link statically or with -z now: else the first call that comes to memcpy or memset runs the dynamic linker on this stack,
    which took some 3,200 bytes more.
 
-      ring_new          128
-      ring_join         192
-      ring_stabilize    320
-      ring_rectify      256
-      ring_round       1856
-      ring_settle      1920
-      ring_fail         128
-      ring_leave      15104
-      ring_lookup       192
-      ring_held         128
-      ring_principal     64
-      ring_audit       2816
-      ring_findings    3328
-      ring_alike        128
-      ring_take_over     64
-      ring_image_write  128
-      ring_image_read   128
-      ring_image_field   64
+      ring_new           128        ring_lookup        192
+      ring_join          192        ring_held          128
+      ring_stabilize     320        ring_principal      64
+      ring_rectify       256        ring_audit        2816
+      ring_round        1856        ring_findings     3328
+      ring_settle       1920        ring_alike         128
+      ring_is_open       128        ring_take_over      64
+      ring_next_open      64        ring_image_write   128
+      ring_settle_at    2432        ring_image_read    128
+      ring_fail          128        ring_image_field    64
+      ring_leave       15104
 
    Time. No call's work grows faster than members * r * log(members), but for ring_held, which goes through its keys too,
-   ring_round, with members * r * (r + log(members)), and ring_settle, with at most members - 1 rounds. docs/PERFORMANCE.md
-   has times.
+   ring_round, with members * r * (r + log(members)), ring_settle, with at most members - 1 rounds, and ring_settle_at, which
+   is as ring_settle and goes through its minutes too, for each of them through the windows. docs/PERFORMANCE.md has times.
 
    The archive is built for x86-64 Linux (System V calling convention), and needs memcpy and memset of the C library, and
    nothing else. */
@@ -227,9 +236,11 @@ extern "C" {
    byte first. */
 #define RING_LAYOUT 2
 
-/* The most members, and the most entries in a list. */
+/* The most members, the most entries in a list, the most windows, of two words each; and the minutes of a week. */
 #define RING_MEMBERS_MOST 256
 #define RING_R_MOST 8
+#define RING_WINDOWS_MOST 16
+#define RING_WEEK 10080
 
 /* The words of the header, by name: table[RING_R]. */
 enum {
@@ -288,7 +299,9 @@ enum {
     RING_NO_NEW_TABLE = 11,      /* new: r not 1 to 8, identifiers not strictly rising, fewer than r + 1, more than 256 */
     RING_KEYS_NOT_RISING = 12,   /* held: the keys are not strictly rising */
     RING_DEAD_FIRST_ENTRY = 13,  /* join: the first entry of p is no member */
-    RING_NOT_SOUND = 14          /* round and settle: the table is not sound */
+    RING_NOT_SOUND = 14,         /* round, settle, settle at: the table is not sound */
+    RING_BAD_WINDOWS = 15,       /* over 16 windows, an odd number of words, equal ends, or a minute of the week over 10079 */
+    RING_BAD_MINUTES = 16        /* settle at: the minutes are not strictly rising, or one is 4294967295 */
 };
 
 /* The verdicts on a table. */
@@ -354,9 +367,9 @@ struct ring_answer ring_join(uint32_t *table, size_t words, uint32_t j, uint32_t
    times, then look at most once, then done: r + 1 steps are enough; if a step is pending, the first says done. On a table
    that is not sound nothing bounds the agains but the identifiers: a lone member with r = 1 can say again 4294967295 times in
    a row. So bound the loop.
-   While a shelf stays a member, its step count changes by its own accepted stabilize steps, those of ring_round and
-   ring_settle among them, by ring_new and by ring_image_read, and by nothing else: not by steps of others, not by their joins,
-   losses and withdrawals, though these may move its record, not by ring_rectify, and not by a refused call. */
+   While a shelf stays a member, its step count changes by its own accepted stabilize steps, those of ring_round, ring_settle
+   and ring_settle_at among them, by ring_new and by ring_image_read, and by nothing else: not by steps of others, not by their
+   joins, losses and withdrawals, though these may move its record, not by ring_rectify, and not by a refused call. */
 struct ring_answer ring_stabilize(uint32_t *table, size_t words, uint32_t n);
 
 /* n takes a notice that q sent, any identifier: q becomes n's predecessor if between(predecessor, q, n), or if the
@@ -382,6 +395,24 @@ struct ring_answer ring_round(uint32_t *table, size_t words);
    several calls add up, single rounds among them, as long as no other call that writes the table stands between them. A
    round after that many changes step counts only. */
 struct ring_answer ring_settle(uint32_t *table, size_t words, uint32_t limit);
+
+/* Is this minute of the week open? The windows are words, start and end by turns: 0 to 16 windows, overlapping or not. values:
+   {1} yes, {0} no. Nothing is written. Refused: 15. */
+struct ring_answer ring_is_open(const uint32_t *windows, size_t words, uint32_t minute);
+
+/* The first open minute of the week at or after this one, going round: it is open, and none from this one up to it is.
+   values: {1, that minute}, or {0} for none, exactly where there is no window. Nothing is written. Refused: 15. */
+struct ring_answer ring_next_open(const uint32_t *windows, size_t words, uint32_t minute);
+
+/* Settle with windows: in the order of the list one round at each open minute, none at a closed one; it stops early exactly
+   where the verdict before a round is 2, and has no other limit. The minutes are counted from a week's start: strictly rising,
+   each below 4294967295; one minute or none is a list too. values: rounds run, verdict, passed, as ring_settle. Refused: 1, 15
+   (by the windows alone), 16, 14; 15 and 16 are judged on the whole lists, even where no round would be run.
+   It leaves what single rounds at the open minutes of the list leave, up to the first at which the verdict is 2; it answers
+   and leaves what ring_settle does with the number of open minutes as its limit. So with members - principals + r open
+   minutes or more it reports verdict 2, with none it runs no round, and its rounds add up with others as ring_settle's do. */
+struct ring_answer ring_settle_at(uint32_t *table, size_t words, const uint32_t *windows, size_t window_words,
+                                  const uint32_t *minutes, size_t count);
 
 /* Loss of n: its record goes, those above move down, the r + 5 words freed become 0. values: member count afterwards.
    Refused: 1, 3. */
@@ -426,7 +457,7 @@ struct ring_answer ring_findings(const uint32_t *table, size_t words, struct rin
 /* Are two tables equal in r, in the members' identifiers, and in each member's predecessor, pending, candidate and whole
    list? Step counts are not compared, nor words after the last record. values: 1 yes, 0 no. Nothing is written. Refused: 1,
    for either.
-   Yes, of slices of equal length, lent so to every later call: every sequence of the nine calls that ONE RING names, made on
+   Yes, of slices of equal length, lent so to every later call: every sequence of the ten calls that ONE RING names, made on
    both tables, sound or not, with nothing else written between, gets the same answers on both, one by one, and ring_alike
    says yes again after it. So after each such sequence ring_findings (answer and findings), ring_held and ring_principal
    answer the same on both, and ring_image_write writes the same number of bytes, which differ at most in step counts. The

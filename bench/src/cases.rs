@@ -1,107 +1,17 @@
-//! What is measured: a call, the buffers that it is made on, and the answer that it must give.
+//! What is measured: for each call the buffers that it is made on, and the answer that it must give; and the comparison of both sides.
 
+use crate::calls::{Call, Side};
 use crate::same::{answer, Answer};
 #[cfg(feature = "whole")]
 use crate::same::{Finding, Runs};
 use crate::tables::{identifiers, table, Lists, MEMBERS};
+#[cfg(feature = "whole")]
+use crate::weeks;
 use crate::{library, same};
 use std::hint::black_box;
 
 #[cfg(feature = "whole")]
 const BYTES: usize = 13325;
-
-#[derive(Clone, Copy, Debug, PartialEq, Eq)]
-pub enum Side {
-    Library,
-    Rust,
-}
-
-#[derive(Clone, Copy, PartialEq, Eq)]
-pub enum Call {
-    New,
-    JoinFail,
-    JoinDead,
-    StabilizeDone,
-    StabilizeAgain,
-    RectifySame,
-    RectifyNew,
-    Leave6,
-    Leave7,
-    LeaveOk,
-    Lookup,
-    LookupDead,
-    Audit(Lists),
-    /// The audit, on the Rust side with the principals counted one by one.
-    AuditEarly(Lists),
-    Alike,
-    /// With so many keys.
-    #[cfg(feature = "whole")]
-    Held(usize),
-    #[cfg(feature = "whole")]
-    PrincipalAll,
-    #[cfg(feature = "whole")]
-    PrincipalHalf,
-    #[cfg(feature = "whole")]
-    Findings,
-    #[cfg(feature = "whole")]
-    Round,
-    #[cfg(feature = "whole")]
-    Settle(Lists),
-    #[cfg(feature = "whole")]
-    ImageWrite,
-    #[cfg(feature = "whole")]
-    ImageRead,
-    /// No call, but the copying back that the cases LeaveOk and Settle do after each call.
-    Restore,
-}
-
-pub const CALLS: &[(&str, Call)] = &[
-    ("new", Call::New),
-    ("join-fail", Call::JoinFail),
-    ("join-dead", Call::JoinDead),
-    ("stabilize-done", Call::StabilizeDone),
-    ("stabilize-again", Call::StabilizeAgain),
-    ("rectify-same", Call::RectifySame),
-    ("rectify-new", Call::RectifyNew),
-    ("leave-refused-6", Call::Leave6),
-    ("leave-refused-7", Call::Leave7),
-    ("leave-accepted", Call::LeaveOk),
-    ("lookup-255-moves", Call::Lookup),
-    ("lookup-dead", Call::LookupDead),
-    ("audit", Call::Audit(Lists::Settled)),
-    ("audit-late", Call::Audit(Lists::Late)),
-    ("audit-half", Call::Audit(Lists::Half)),
-    ("audit-random", Call::Audit(Lists::Random)),
-    ("alike", Call::Alike),
-    #[cfg(feature = "whole")]
-    ("held-100-keys", Call::Held(100)),
-    #[cfg(feature = "whole")]
-    ("held-10000-keys", Call::Held(10_000)),
-    #[cfg(feature = "whole")]
-    ("principal-all", Call::PrincipalAll),
-    #[cfg(feature = "whole")]
-    ("principal-half", Call::PrincipalHalf),
-    #[cfg(feature = "whole")]
-    ("findings", Call::Findings),
-    #[cfg(feature = "whole")]
-    ("round-settled", Call::Round),
-    #[cfg(feature = "whole")]
-    ("settle-churn", Call::Settle(Lists::Lost)),
-    #[cfg(feature = "whole")]
-    ("settle-worst", Call::Settle(Lists::Slowest)),
-    #[cfg(feature = "whole")]
-    ("image-write", Call::ImageWrite),
-    #[cfg(feature = "whole")]
-    ("image-read", Call::ImageRead),
-];
-
-/// What is counted too, but is no call of its own.
-pub const OTHERS: &[(&str, Call)] = &[
-    ("audit-early", Call::AuditEarly(Lists::Settled)),
-    ("audit-early-half", Call::AuditEarly(Lists::Half)),
-    ("audit-early-random", Call::AuditEarly(Lists::Random)),
-    ("restore", Call::Restore),
-];
 
 /// The buffers of one side, and the numbers of the call.
 #[derive(Clone, PartialEq, Eq)]
@@ -111,6 +21,10 @@ pub struct Case {
     ids: Vec<u32>,
     #[cfg(feature = "whole")]
     keys: Vec<u32>,
+    #[cfg(feature = "whole")]
+    windows: Vec<u32>,
+    #[cfg(feature = "whole")]
+    minutes: Vec<u32>,
     #[cfg(feature = "whole")]
     findings: Vec<Finding>,
     #[cfg(feature = "whole")]
@@ -153,6 +67,10 @@ impl Case {
             Call::Audit(lists) | Call::AuditEarly(lists) => lists,
             #[cfg(feature = "whole")]
             Call::Settle(lists) => lists,
+            #[cfg(feature = "whole")]
+            Call::SettleClosed => Lists::Late,
+            #[cfg(feature = "whole")]
+            Call::SettleOpen => Lists::Lost,
             Call::LookupDead => Lists::Lost,
             _ => Lists::Settled,
         };
@@ -164,6 +82,12 @@ impl Case {
         #[cfg(feature = "whole")]
         let keys = match call {
             Call::Held(count) => rising_keys(count),
+            _ => Vec::new(),
+        };
+        #[cfg(feature = "whole")]
+        let minutes = match call {
+            Call::SettleClosed => weeks::minutes(false, 1_000_000),
+            Call::SettleOpen => weeks::minutes(true, 255),
             _ => Vec::new(),
         };
         let expected = match call {
@@ -262,6 +186,23 @@ impl Case {
                 told
             }
             #[cfg(feature = "whole")]
+            Call::IsOpen => {
+                // The last window alone holds it.
+                x = 29;
+                answer(0, [1])
+            }
+            #[cfg(feature = "whole")]
+            Call::NextOpen => {
+                // Between the last two windows.
+                x = weeks::WEEK - 90;
+                answer(0, [1, weeks::WEEK - 30])
+            }
+            #[cfg(feature = "whole")]
+            Call::SettleClosed => answer(0, [0, 1, 0]),
+            // Each member's list has one right entry more after each round.
+            #[cfg(feature = "whole")]
+            Call::SettleOpen => answer(0, [r, 2, n / 2]),
+            #[cfg(feature = "whole")]
             Call::ImageWrite => answer(0, [13 + n * (20 + 4 * r)]),
             #[cfg(feature = "whole")]
             Call::ImageRead => answer(0, [n]),
@@ -289,6 +230,10 @@ impl Case {
             ids,
             #[cfg(feature = "whole")]
             keys,
+            #[cfg(feature = "whole")]
+            windows: weeks::windows(),
+            #[cfg(feature = "whole")]
+            minutes,
             #[cfg(feature = "whole")]
             findings: vec![Finding::default(); MEMBERS],
             #[cfg(feature = "whole")]
@@ -390,6 +335,17 @@ macro_rules! runner {
                     answer
                 }),
                 #[cfg(feature = "whole")]
+                Call::IsOpen => repeat!($side::is_open(black_box(&case.windows), black_box(x))),
+                #[cfg(feature = "whole")]
+                Call::NextOpen => repeat!($side::next_open(black_box(&case.windows), black_box(x))),
+                #[cfg(feature = "whole")]
+                Call::SettleClosed | Call::SettleOpen => repeat!({
+                    let (windows, minutes) = (black_box(&case.windows), black_box(&case.minutes));
+                    let answer = $side::settle_at(black_box(table), windows, minutes);
+                    table.copy_from_slice(black_box(other));
+                    answer
+                }),
+                #[cfg(feature = "whole")]
                 Call::ImageWrite => {
                     repeat!($side::image_write(
                         black_box(table),
@@ -459,6 +415,14 @@ fn steps(name: &str, r: u32, ours: &Case, theirs: &Case) {
                 same::settle(&mut b, ours.x),
             );
             assert!(p.number == 0 && p == q && a == b, "{}", differ("settle"));
+        }
+        #[cfg(feature = "whole")]
+        "settle-at-closed" | "settle-at-churn" => {
+            let (p, q) = (
+                library::settle_at(&mut a, &ours.windows, &ours.minutes),
+                same::settle_at(&mut b, &ours.windows, &ours.minutes),
+            );
+            assert!(p.number == 0 && p == q && a == b, "{}", differ("settle at"));
         }
         _ => {}
     }

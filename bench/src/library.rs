@@ -65,7 +65,10 @@ pub fn alike(a: &[u32], b: &[u32]) -> Answer {
 }
 
 #[cfg(feature = "whole")]
-pub use whole::{findings, held, image_read, image_write, principal, round, settle};
+pub use whole::{
+    findings, held, image_read, image_write, is_open, next_open, principal, round, settle,
+    settle_at,
+};
 
 #[cfg(feature = "whole")]
 mod whole {
@@ -88,6 +91,16 @@ mod whole {
         ) -> Answer;
         fn ring_round(table: *mut u32, words: usize) -> Answer;
         fn ring_settle(table: *mut u32, words: usize, limit: u32) -> Answer;
+        fn ring_is_open(windows: *const u32, words: usize, minute: u32) -> Answer;
+        fn ring_next_open(windows: *const u32, words: usize, minute: u32) -> Answer;
+        fn ring_settle_at(
+            table: *mut u32,
+            words: usize,
+            windows: *const u32,
+            window_words: usize,
+            minutes: *const u32,
+            count: usize,
+        ) -> Answer;
         fn ring_image_write(
             table: *const u32,
             words: usize,
@@ -128,6 +141,30 @@ mod whole {
     #[inline(always)]
     pub fn settle(words: &mut [u32], limit: u32) -> Answer {
         unsafe { ring_settle(words.as_mut_ptr(), words.len(), limit) }
+    }
+
+    #[inline(always)]
+    pub fn is_open(windows: &[u32], minute: u32) -> Answer {
+        unsafe { ring_is_open(windows.as_ptr(), windows.len(), minute) }
+    }
+
+    #[inline(always)]
+    pub fn next_open(windows: &[u32], minute: u32) -> Answer {
+        unsafe { ring_next_open(windows.as_ptr(), windows.len(), minute) }
+    }
+
+    #[inline(always)]
+    pub fn settle_at(words: &mut [u32], windows: &[u32], minutes: &[u32]) -> Answer {
+        unsafe {
+            ring_settle_at(
+                words.as_mut_ptr(),
+                words.len(),
+                windows.as_ptr(),
+                windows.len(),
+                minutes.as_ptr(),
+                minutes.len(),
+            )
+        }
     }
 
     #[inline(always)]

@@ -1,11 +1,15 @@
 //! The library and the same algorithms in Rust, measured side by side. See README.md.
 
+mod calls;
 mod cases;
 mod library;
 mod same;
 mod tables;
+#[cfg(feature = "whole")]
+mod weeks;
 
-use cases::{agree, Call, Case, Side, CALLS, OTHERS};
+use calls::{Call, Side, CALLS, OTHERS};
+use cases::{agree, Case};
 use std::process::exit;
 use std::time::{Duration, Instant};
 use tables::Lists;

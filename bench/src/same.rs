@@ -5,9 +5,13 @@
 
 mod calls;
 #[cfg(feature = "whole")]
+mod hours;
+#[cfg(feature = "whole")]
 mod settle;
 
 pub use calls::*;
+#[cfg(feature = "whole")]
+pub use hours::{is_open, next_open, settle_at};
 #[cfg(feature = "whole")]
 pub use settle::{round, settle};
 

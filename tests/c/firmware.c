@@ -1,9 +1,9 @@
-/* A firmware main loop in small: it starts a ring, lets shelves join, stabilize and leave, settles the ring after churn, tries a join again that
-   was declined behind a dead neighbour, pulls neighbouring shelves from a ring with verdict 2, saves and restores the table, looks keys up, and
-   asks which keys a shelf holds, whether it is a principal, how stale the lists are, which shelf does not stabilize, and whether a copy is alike.
-   Every call of include/ring.h is used, and each answer is compared with what documents 01 and 02 say: document 01's calls here, document 02's
-   requests in requests.c and requests_07.c. The first functions are what the header tells one to do: a member's turn, a join, a loss, a reading of a
-   step count. Exit status 0, and 'firmware: N checks, 0 wrong' on standard output. */
+/* A firmware main loop in small: it starts a ring, lets shelves join, stabilize and leave, settles the ring after churn, in service hours too, tries
+   a join again that was declined behind a dead neighbour, pulls neighbouring shelves from a ring with verdict 2, saves and restores the table, looks
+   keys up, and asks which keys a shelf holds, whether it is a principal, how stale the lists are, which shelf does not stabilize, and whether a copy
+   is alike. Every call of include/ring.h is used, and each answer is compared with what documents 01 and 02 say: document 01's calls here, document
+   02's requests in requests.c, requests_07.c and requests_09.c. The first functions are what the header tells one to do: a member's turn, a join, a
+   loss, a reading of a step count. Exit status 0, and 'firmware: N checks, 0 wrong' on standard output. */
 
 #include "firmware.h"
 #include "check.h"
@@ -346,5 +346,6 @@ int main(void)
     passed_over(table);
     counted_by_shelf(table);
     finer_alike(table);
+    service_hours(table);
     return closing_line("firmware");
 }

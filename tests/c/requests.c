@@ -1,5 +1,5 @@
 /* Document 02's requests, a function each, Req 01 to Req 06: what the firmware loop asks of the settled ring of 104 shelves, and of rings of its own.
-   requests_07.c has the later ones. */
+   requests_07.c and requests_09.c have the later ones. */
 
 #include "firmware.h"
 #include "check.h"

@@ -1,4 +1,4 @@
-/* Document 02's requests from Req 07 on, a function each, as requests.c has the earlier ones. */
+/* Document 02's Req 07 and Req 08, a function each, as requests.c has the earlier ones and requests_09.c the later. */
 
 #include "firmware.h"
 #include "check.h"
@@ -320,11 +320,13 @@ static void swapped(void)
     expect_alike("lists differ", other, room, kept, room, RING_OK, 0);
 }
 
-/* The nine calls whose answers a yes promises, and how often each is drawn, of 16. */
-enum { JOIN, LEAVE, FAIL, STABILIZE, RECTIFY, ROUND, SETTLE, LOOKUP, AUDIT, KINDS };
-static const uint32_t often[KINDS] = {4, 2, 1, 3, 2, 1, 1, 1, 1};
+/* The ten calls whose answers a yes promises, and how often each is drawn, of 17. Settle with windows gets none to two of them, or an odd number of
+   words, and two minutes, which need not rise. */
+enum { JOIN, LEAVE, FAIL, STABILIZE, RECTIFY, ROUND, SETTLE, SETTLE_AT, LOOKUP, AUDIT, KINDS };
+static const uint32_t often[KINDS] = {4, 2, 1, 3, 2, 1, 1, 1, 1, 1};
 static struct ring_answer call_of(uint32_t kind, uint32_t *table, size_t size, uint32_t n, uint32_t m)
 {
+    const uint32_t windows[] = {4, 12, 20, 2}, minutes[] = {n, m};
     switch (kind) {
     case JOIN: return ring_join(table, size, m, n);
     case LEAVE: return ring_leave(table, size, n);
@@ -333,6 +335,7 @@ static struct ring_answer call_of(uint32_t kind, uint32_t *table, size_t size, u
     case RECTIFY: return ring_rectify(table, size, n, m);
     case ROUND: return ring_round(table, size);
     case SETTLE: return ring_settle(table, size, m % 4);
+    case SETTLE_AT: return ring_settle_at(table, size, windows, m % 5, minutes, 2);
     case LOOKUP: return ring_lookup(table, size, n, m);
     default: return ring_audit(table, size);
     }
@@ -383,7 +386,7 @@ static void driven_alike(void)
         ring_new(other, size, r, many, members), ring_new(kept, size, r, many, members);
         for (i = 0; i < members; i++) *steps_at(kept, i) = 4294967295u - i;
         for (i = 0; i < 100; i++) {
-            uint32_t kind = 0, n = drawn(32), m = drawn(32), draw = drawn(16);
+            uint32_t kind = 0, n = drawn(32), m = drawn(32), draw = drawn(17);
             struct ring_answer a, b, alike;
             while (draw >= often[kind]) draw -= often[kind++];
             if (other[RING_MEMBERS] > 0 && drawn(4) > 0) n = id_at(other, n % other[RING_MEMBERS]);
@@ -397,12 +400,13 @@ static void driven_alike(void)
     }
     expect_true("1,200 calls answered the same, with a yes after each", same == 1200);
     expect_true("step counts differ for most of them", counts > 600);
-    expect_true("each of the nine is accepted", accepted == BIT(KINDS) - 1);
+    expect_true("each of the ten is accepted", accepted == BIT(KINDS) - 1);
     expect_true("steps reply all three", replies == (BIT(RING_AGAIN) | BIT(RING_LOOK) | BIT(RING_DONE)));
     expect_true("each of their numbers but 1 is met",
                 numbers ==
                     (BIT(RING_OK) | BIT(RING_ALREADY_MEMBER) | BIT(RING_NO_MEMBER) | BIT(RING_NOT_BETWEEN) | BIT(RING_NO_ROOM) | BIT(RING_CUTS_OFF) |
-                     BIT(RING_TOO_FEW_PRINCIPALS) | BIT(RING_NO_LIVE_ENTRY) | BIT(RING_DEAD_FIRST_ENTRY) | BIT(RING_NOT_SOUND)));
+                     BIT(RING_TOO_FEW_PRINCIPALS) | BIT(RING_NO_LIVE_ENTRY) | BIT(RING_DEAD_FIRST_ENTRY) | BIT(RING_NOT_SOUND) |
+                     BIT(RING_BAD_WINDOWS) | BIT(RING_BAD_MINUTES)));
 }
 
 /* Req 08: finer alike. */

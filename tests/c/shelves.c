@@ -1,6 +1,6 @@
 /* A ring of twelve shelves, as one writes it from include/ring.h alone, and nothing else of the project: joins, a withdrawal, losses, turns, step
-   counts, settle, held keys, images, a copy compared, and findings. It compiles as C99, C11 and C++. Exit status 0, and 'shelves: as the header says'
-   on standard output. */
+   counts, settle, service hours, held keys, images, a copy compared, and findings. It compiles as C99, C11 and C++. Exit status 0, and 'shelves: as
+   the header says' on standard output. */
 
 #include "ring.h"
 #include <stdio.h>
@@ -11,6 +11,7 @@ enum { SHELVES = 12, KEYS = 500, WORDS = RING_TABLE_WORDS_MOST };
 static uint32_t table[WORDS], copy[WORDS], keys[KEYS];
 static uint8_t image[RING_IMAGE_BYTES_MOST];
 static struct ring_finding findings[RING_MEMBERS_MOST];
+static const uint32_t hours[12] = {1320, 1800, 2760, 3240, 4200, 4680, 5640, 6120, 7080, 7560, 8400, 360};
 
 /* Says what went wrong, and how often something did. */
 static int wrong;
@@ -75,6 +76,22 @@ static void lost(uint32_t n)
     if (number == RING_CUTS_OFF || number == RING_TOO_FEW_PRINCIPALS) ring_fail(table, WORDS, n);
 }
 
+/* Settles the copy in service hours, after Monday 6:00, with a call at each open minute. Returns the rounds that it took, 0 where it did not end. */
+static uint32_t at_night(void)
+{
+    uint32_t t = 360, rounds;
+    for (rounds = 1; rounds < RING_MEMBERS_MOST; rounds++) {
+        const uint32_t m = (t + 1) % RING_WEEK;
+        struct ring_answer a = ring_next_open(hours, 12, m);
+        if (a.number != RING_OK || a.values[0] != 1) return 0;
+        t += 1 + (a.values[1] + RING_WEEK - m) % RING_WEEK;
+        a = ring_settle_at(copy, WORDS, hours, 12, &t, 1);
+        if (a.number != RING_OK || a.values[0] != 1) return 0;
+        if (a.values[1] == RING_VERDICT_IDEAL) return rounds;
+    }
+    return 0;
+}
+
 static uint32_t verdict(void)
 {
     const struct ring_answer a = ring_audit(table, WORDS);
@@ -118,8 +135,10 @@ int main(void)
     lost(450), lost(950);
     check(verdict() == RING_VERDICT_SOUND, "sound after losses");
     check(join(360) == RING_OK, "one joins behind the lost ones");
+    memcpy(copy, table, sizeof copy);
     a = ring_settle(table, WORDS, 255);
     check(a.number == RING_OK && a.values[1] == RING_VERDICT_IDEAL, "settled");
+    check(at_night() == a.values[0] && memcmp(copy, table, sizeof copy) == 0, "the same at night");
     a = ring_audit(table, WORDS);
     check(a.values[0] == 14 && a.values[1] == 14 && a.values[2] == 14 && a.values[3] == RING_VERDICT_IDEAL, "14 shelves, all on the ring");
     hold();

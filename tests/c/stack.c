@@ -10,12 +10,14 @@
 #include <string.h>
 #include <ucontext.h>
 
-enum { STACK = 1 << 16, PAINT = 0xa5, CALLS = 18, ALIKE = 9, HELD = 14, PRINCIPAL = 15, ROUND = 16, SETTLE = 17, KEYS = 100000 };
+enum { STACK = 1 << 16, PAINT = 0xa5, CALLS = 21, ALIKE = 9, HELD = 14, PRINCIPAL = 15, ROUND = 16, SETTLE = 17, KEYS = 100000 };
+enum { IS_OPEN = 18, NEXT_OPEN = 19, SETTLE_AT = 20, WINDOWS = 2 * RING_WINDOWS_MOST };
 
 static const char *const names[CALLS] = {"ring_new",        "ring_join",        "ring_stabilize",  "ring_rectify",    "ring_fail",
                                          "ring_leave",      "ring_lookup",      "ring_audit",      "ring_findings",   "ring_alike",
                                          "ring_take_over",  "ring_image_write", "ring_image_read", "ring_image_field", "ring_held",
-                                         "ring_principal",  "ring_round",       "ring_settle"};
+                                         "ring_principal",  "ring_round",       "ring_settle",     "ring_is_open",    "ring_next_open",
+                                         "ring_settle_at"};
 
 /* The numbers that each call can answer, a bit each. */
 #define BIT(n) (1u << (n))
@@ -38,6 +40,9 @@ static const uint32_t numbers[CALLS] = {
     BIT(0) | BIT(1) | BIT(3),
     BIT(0) | BIT(1) | BIT(14), /* round */
     BIT(0) | BIT(1) | BIT(14),
+    BIT(0) | BIT(15), /* is_open */
+    BIT(0) | BIT(15),
+    BIT(0) | BIT(1) | BIT(14) | BIT(15) | BIT(16), /* settle_at */
 };
 
 static unsigned char painted[STACK];
@@ -49,17 +54,20 @@ static uint32_t principals;          /* not a principal, a principal */
 static uint32_t alikes;              /* no, yes */
 static uint32_t verdicts;            /* of a round: 1, 2 */
 static uint32_t most_rounds;         /* that a settle ran */
+static uint32_t opens, nexts;        /* closed, open; none, a minute */
+static uint32_t most_at;             /* rounds that a settle with windows ran */
 
 static uint32_t table[RING_TABLE_WORDS(RING_R_MOST, RING_MEMBERS_MOST + 1)], other[RING_TABLE_WORDS_MOST];
 static uint8_t image[RING_IMAGE_BYTES_MOST];
 static struct ring_finding findings[256];
-static uint32_t ids[256], keys[KEYS];
+static uint32_t ids[256], keys[KEYS]; /* the keys are minutes too */
+static uint32_t windows[WINDOWS + 2]; /* one more than may be lent */
 static size_t words = RING_TABLE_WORDS_MOST;
 
 /* What the call on the painted stack is to do, and what it answered. */
 static int call;
 static uint32_t r, a, b;
-static size_t count, bytes, at;
+static size_t count, bytes, at, window_words;
 static volatile uintptr_t top;
 static struct ring_answer answer;
 static struct ring_runs runs;
@@ -83,6 +91,9 @@ static struct ring_answer make(void)
     case PRINCIPAL: return ring_principal(table, words, a);
     case ROUND: return ring_round(table, words);
     case SETTLE: return ring_settle(table, words, a);
+    case IS_OPEN: return ring_is_open(windows, window_words, a);
+    case NEXT_OPEN: return ring_next_open(windows, window_words, a);
+    case SETTLE_AT: return ring_settle_at(table, words, windows, window_words, keys, count);
     default: return ring_image_field(image, bytes, at);
     }
 }
@@ -134,6 +145,9 @@ static void run(int c)
     if (c == ALIKE && answer.number == RING_OK) alikes |= BIT(answer.values[0]);
     if (c == ROUND && answer.number == RING_OK) verdicts |= BIT(answer.values[0]);
     if (c == SETTLE && answer.number == RING_OK && answer.values[0] > most_rounds) most_rounds = answer.values[0];
+    if (c == IS_OPEN && answer.number == RING_OK) opens |= BIT(answer.values[0]);
+    if (c == NEXT_OPEN && answer.number == RING_OK) nexts |= BIT(answer.values[0]);
+    if (c == SETTLE_AT && answer.number == RING_OK && answer.values[0] > most_at) most_at = answer.values[0];
 }
 
 static void on(uint32_t of_r, size_t members, uint32_t gap)
@@ -156,25 +170,58 @@ static void held(size_t of, uint32_t last)
     keys[of - 1]++;
 }
 
-/* A ring in which every second member but the first few was lost, a dead candidate is pending and a predecessor is dead: a round, settle with each
-   sort of limit; and on a table that is not sound. */
+/* A ring in which every second member but the first few was lost, a dead candidate is pending and a predecessor is dead. */
+static void churned(uint32_t of_r, size_t members, uint32_t gap)
+{
+    size_t i;
+    on(of_r, members, gap);
+    for (i = of_r + 2; i < members; i += 2) a = (uint32_t)i * gap, run(5);
+    set_pending(table, 0, 1, 1); /* its candidate dead */
+    record_at(table, 1)[RING_PREDECESSOR] = 1;
+}
+
+/* Settle with windows, so many words of them, at no minute, at two and at many. */
+static void settled_at(size_t of)
+{
+    window_words = of;
+    count = 0, run(SETTLE_AT);
+    count = 2, run(SETTLE_AT);
+    count = KEYS, run(SETTLE_AT);
+}
+
+/* A round, settle with each sort of limit, and with windows: none, one, 16, 17, and minutes that do not rise; on such a ring, on an ideal one, and on
+   a table that is not sound. */
 static void settled(uint32_t of_r, size_t members, uint32_t gap)
 {
     size_t i;
     on(of_r, members, gap);
     a = 0, run(SETTLE);
     a = 255, run(SETTLE);
-    for (i = of_r + 2; i < members; i += 2) a = (uint32_t)i * gap, run(5);
-    set_pending(table, 0, 1, 1); /* its candidate dead */
-    record_at(table, 1)[RING_PREDECESSOR] = 1;
+    settled_at(WINDOWS);
+    churned(of_r, members, gap);
     run(ROUND);
     a = 0, run(SETTLE);
     a = 1, run(SETTLE);
     a = UINT32_MAX, run(SETTLE);
     run(ROUND);
+    churned(of_r, members, gap);
+    settled_at(0), settled_at(1), settled_at(WINDOWS + 2);
+    settled_at(WINDOWS);
+    churned(of_r, members, gap);
+    keys[KEYS - 1]--, settled_at(2), keys[KEYS - 1]++;
+    settled_at(2);
     for (i = 0; i < of_r; i++) record_at(table, 0)[RING_LIST + i] = 3;
     run(ROUND);
     run(SETTLE);
+    settled_at(WINDOWS);
+}
+
+/* Both calls of windows alone, with so many words of them: minutes within and without, round the week's end, and one that is none. */
+static void opened(size_t of)
+{
+    window_words = of;
+    for (a = 0; a <= RING_WEEK; a += 90) run(IS_OPEN), run(NEXT_OPEN);
+    a = RING_WEEK - 1, run(IS_OPEN), run(NEXT_OPEN);
 }
 
 /* Alike of table and of other, which has one word of the record at a place another, each in turn. */
@@ -252,6 +299,7 @@ static void every(uint32_t of_r, size_t members)
     table[RING_R] = 9, count = 256, bytes = sizeof image, a = 0, b = 0;
     for (c = 1; c <= 11; c++) run(c);
     run(PRINCIPAL), run(ROUND), run(SETTLE);
+    settled_at(0), settled_at(WINDOWS);
     count = KEYS, run(HELD);
 }
 
@@ -260,6 +308,9 @@ int main(void)
     uint32_t of_r, i;
     int c, missing = 0;
     for (i = 0; i < KEYS; i++) keys[i] = i;
+    for (i = 0; i < WINDOWS + 2; i++) windows[i] = 5 + i * 300; /* five hours each, and so many between them */
+    windows[WINDOWS - 1] = 2;                                   /* over the week's end */
+    for (i = 0; i <= WINDOWS + 2; i++) opened(i);
     for (of_r = 1; of_r <= 8; of_r++) {
         every(of_r, of_r + 1);
         every(of_r, 255);
@@ -290,6 +341,10 @@ int main(void)
     }
     if (verdicts != (BIT(1) | BIT(2)) || most_rounds < 3) {
         printf("ring_round: the verdicts %x were met; ring_settle: at most %u rounds\n", verdicts, (unsigned)most_rounds);
+        missing = 1;
+    }
+    if (opens != (BIT(0) | BIT(1)) || nexts != (BIT(0) | BIT(1)) || most_at < 3) {
+        printf("ring_is_open, ring_next_open: the replies %x and %x were met; ring_settle_at: at most %u rounds\n", opens, nexts, (unsigned)most_at);
         missing = 1;
     }
     return missing;

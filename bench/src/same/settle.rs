@@ -1,11 +1,11 @@
 //! A round, and settle. The table is judged once; then each turn is taken in place, on a table known to be well-formed and
-//! sound, and after a round only the ideal is looked at.
+//! sound, and after a round only the ideal is looked at. hours.rs has settle with windows.
 
 use super::*;
 
 /// What a table is like, whatever its records are.
 #[derive(Clone, Copy)]
-struct Shape {
+pub(super) struct Shape {
     r: usize,
     members: usize,
     width: usize,
@@ -15,17 +15,20 @@ impl Shape {
     /// The shape of the table in the words, and how many entries the searches of its members pass over; or the number that
     /// declines a round.
     fn of_sound(words: &[u32]) -> Result<(Shape, u32), u32> {
-        let t = Table::open(words).ok_or(1u32)?;
+        Shape::if_sound(&Table::open(words).ok_or(1u32)?).ok_or(14)
+    }
+
+    /// The same of a well-formed table, if it is sound.
+    #[inline(always)]
+    pub(super) fn if_sound(t: &Table) -> Option<(Shape, u32)> {
         let (best, passed) = t.best_places();
-        if !t.is_sound(&best[..t.members], t.count_principals()) {
-            return Err(14);
-        }
         let shape = Shape {
             r: t.r,
             members: t.members,
             width: t.width,
         };
-        Ok((shape, passed))
+        t.is_sound(&best[..t.members], t.count_principals())
+            .then_some((shape, passed))
     }
 
     #[inline(always)]
@@ -38,7 +41,7 @@ impl Shape {
         }
     }
 
-    fn is_ideal(self, words: &[u32]) -> bool {
+    pub(super) fn is_ideal(self, words: &[u32]) -> bool {
         self.table(words).is_ideal()
     }
 
@@ -63,7 +66,7 @@ impl Shape {
         }
     }
 
-    fn round(self, words: &mut [u32]) {
+    pub(super) fn round(self, words: &mut [u32]) {
         for k in 0..self.members {
             self.turn(words, k);
         }

@@ -5,15 +5,13 @@ use mathlib.Core.Logic.{_⊎_, inl, inr}
 use mathlib.Core.Bool.{Bool, true, false}
 use mathlib.Core.List.{List, [], _∷_}
 use native.Mathlib.Omega.{arith}
-use lib.Dec.{ltb}
-use lib.ListN.{length, getD, drop}
 use borrow.Author.Tests.{le-leb, lt-leb, lt-ltb, le-ltb}
-use Rattle.model.specs.Lists.{if_then_else_, every, any}
-use Rattle.model.specs.Windows.{Window, window, week, windowsIn, inWindow, isOpen, ofWeek}
+use Rattle.model.specs.Lists.{every, any}
+use Rattle.model.specs.Windows.{Window, week, inWindow, isOpen, ofWeek}
 use Rattle.model.specs.Refusals.{rightWindow}
 use Rattle.laws.specs.Lists.{In, here, there, in-cons, in-nil, every-in, in-any}
 use Rattle.laws.specs.Order.{less?}
-use Rattle.laws.specs.Windows.{RightWindow, right-window, Held, inside, late, Shut, before, behind, amid, held-open, shut-closed, held?}
+use Rattle.laws.specs.Windows.{RightWindow, right-window, Held, Shut, before, behind, amid, held-open, shut-closed, held?, not-empty, start-open}
 use Rattle.hours.specs.Ahead.{aheadOf, lesserOf}
 
 -- One window
@@ -36,24 +34,8 @@ module _ (w : Window) (r : RightWindow w) (m : ℕ) (l : m < week) where
   unfolding aheadOf
   ahead-round e h = rw (e, lt-leb m (w .start) h)
 
-  -- the window is not empty
-  apart : w .start ≤ w .end → w .start < w .end
-  apart h = go (less? (w .start) (w .end))
-    where
-      go : (w .start < w .end) ⊎ (w .end ≤ w .start) → w .start < w .end
-      go (inl k) = k
-      go (inr k) = absurd (r .ends-differ (omega arith))
-
-  -- the start is a minute that it holds
-  at-start : Held (w .start) (w .start) (w .end)
-  at-start = go (less? (w .end) (w .start))
-    where
-      go : (w .end < w .start) ⊎ (w .start ≤ w .end) → Held (w .start) (w .start) (w .end)
-      go (inl k) = late k (omega arith)
-      go (inr k) = inside (omega arith) (apart k) k
-
   opens-at : (t : ℕ) → ofWeek t ≡ w .start → inWindow (ofWeek t) w ≡ true
-  opens-at t e = rw e (held-open (w .start) w at-start)
+  opens-at t e = rw e (start-open r)
 
   opens : Opens w m (aheadOf m w)
   opens = go (held? m w)
@@ -69,7 +51,7 @@ module _ (w : Window) (r : RightWindow w) (m : ℕ) (l : m < week) where
             none-before = λ j k. shut-closed (ofWeek (m + j)) w (before a (omega arith));
           })
       go (inr (behind a b)) =
-          let n = apart a in
+          let n = not-empty r a in
           rw (ahead-round (shut-closed m w (behind a b)) (omega arith)) (record {
             is-open = opens-at (m + (w .start + week - m)) (omega arith);
             none-before = λ j k. sub j k (less? (m + j) week);

@@ -1,7 +1,7 @@
 -- One turn of a pass over the windows, and its end: what was judged and found so far, and what is left. Assumes nothing.
 use Prim.Native.Nat.{ℕ, _+_, _-_, _≤_, _<_}
 use mathlib.Core.Path.{_≡_}
-use mathlib.Core.Bool.{Bool, true, _&&_, _||_, and-true, and-assoc, or-assoc, or-false}
+use mathlib.Core.Bool.{Bool, _&&_, _||_, and-true, and-assoc, or-assoc, or-false}
 use mathlib.Core.List.{List}
 use lib.ListN.{length, getD, drop}
 use Rattle.model.specs.Lists.{every}

@@ -1,20 +1,21 @@
--- Windows of the week: one window, a search for the first open minute, and settle with windows as settle whose limit is the open minutes. Assumes nothing.
+-- Windows of the week: one window, those that words say, a search for the first open minute, and settle with windows as settle whose limit is the open minutes. Assumes nothing.
 use mathlib.Core.Path.{_≡_, refl, sym, ap, ap₂, _∙_}
 use mathlib.Core.Logic.{_⊎_, inl, inr}
 use mathlib.Core.Bool.{Bool, true, false, not, _&&_}
 use mathlib.Core.List.{List, [], _∷_}
-use mathlib.Core.Option.{Option, some, none}
+use mathlib.Core.Option.{some, none}
 use Prim.Native.Nat.{ℕ, zero, suc, _+_, _≤_, _<_}
 use native.Mathlib.Omega.{arith}
 use lib.Dec.{ltb, leb, eqb}
-use borrow.Author.Tests.{ltb-true, leb-true, eqb-false, not-true, lt-ltb, le-ltb, le-leb, lt-leb}
-use Rattle.model.specs.Lists.{if_then_else_, bit}
+use lib.ListN.{length}
+use borrow.Author.Tests.{ltb-true, leb-true, eqb-false, not-true, not-false, lt-ltb, le-ltb, le-leb, lt-leb}
+use Rattle.model.specs.Lists.{if_then_else_, every, bit}
 use Rattle.model.specs.Table.{Table, tableOf}
 use Rattle.model.specs.Ring.{verdict}
 use Rattle.model.specs.Answer.{Answer, accepted, declined, answer, afterwards}
 use Rattle.model.specs.Settle.{afterRound, roundsRun, afterRounds, ranReply}
-use Rattle.model.specs.Windows.{Window, week, windowsIn, inWindow, isOpen, ofWeek, firstOpen, openMinutes, roundsAt, settleAtReply, afterSettleAt}
-use Rattle.model.specs.Refusals.{rightWindow, badWindows, badMinutes, settleRefusal, settleAtRefusal}
+use Rattle.model.specs.Windows.{Window, week, windowsIn, paired, inWindow, isOpen, ofWeek, firstOpen, openMinutes, roundsAt}
+use Rattle.model.specs.Refusals.{rightWindow, badWindows, badMinutes, settleAtRefusal}
 use Rattle.model.specs.Calls.{written, settleAnswer, settleWords, settleAtAnswer, settleAtWords}
 use Rattle.laws.specs.Lists.{and-true}
 use Rattle.laws.specs.Order.{less?}
@@ -68,6 +69,36 @@ module _ (m : ℕ) (w : Window) where
       go (inr a) (inl b) c = inr (before a b)
       go (inr a) (inr b) (inl c) = inl (inside b c a)
       go (inr a) (inr b) (inr c) = inr (behind a c)
+
+-- a right window is not empty: it holds its start
+module _ {w : Window} (r : RightWindow w) where
+  pub not-empty : w .start ≤ w .end → w .start < w .end
+  not-empty h = go (less? (w .start) (w .end))
+    where
+      go : (w .start < w .end) ⊎ (w .end ≤ w .start) → w .start < w .end
+      go (inl k) = k
+      go (inr k) = absurd (r .ends-differ (omega arith))
+
+  pub start-open : inWindow (w .start) w ≡ true
+  start-open = held-open (w .start) w (go (less? (w .end) (w .start)))
+    where
+      go : (w .end < w .start) ⊎ (w .start ≤ w .end) → Held (w .start) (w .start) (w .end)
+      go (inl k) = late k (omega arith)
+      go (inr k) = inside (omega arith) (not-empty k) k
+
+-- The windows that words say, where 15 does not apply
+
+pub record RightWindows (vs : List ℕ) : Type 0 where
+  pub pairs : paired vs ≡ true
+  pub few : length (windowsIn vs) ≤ 16
+  pub each : every rightWindow (windowsIn vs) ≡ true
+
+pub right-windows : (vs : List ℕ) → badWindows vs ≡ false → RightWindows vs
+unfolding badWindows
+right-windows vs b =
+    let a = and-true (paired vs && leb (length (windowsIn vs)) 16) (every rightWindow (windowsIn vs)) (not-false _ b) in
+    let c = and-true (paired vs) (leb (length (windowsIn vs)) 16) (a .0) in
+    record { pairs = c .0; few = leb-true (length (windowsIn vs)) 16 (c .1); each = a .1 }
 
 -- Searches
 

@@ -1,5 +1,5 @@
 -- Why a table gets no round, and rounds one after the other, each looked at before it, with a limit or at the minutes of a list. Assumes nothing.
-use Prim.Native.Nat.{ℕ, zero, suc, _+_, _-_, _≤_, _<_, _%_}
+use Prim.Native.Nat.{ℕ, zero, suc, _+_, _-_, _≤_, _<_}
 use mathlib.Core.Path.{_≡_, refl, sym, ap, _∙_}
 use mathlib.Core.Bool.{Bool, true, false}
 use mathlib.Core.List.{List, [], _∷_}
@@ -13,11 +13,11 @@ use Rattle.model.specs.Table.{Table, tableOf, membersIn, wellFormed}
 use Rattle.model.specs.Ring.{sound, verdict, passedByAll}
 use Rattle.model.specs.Answer.{Answer, declined, answer, afterwards}
 use Rattle.model.specs.Settle.{afterRound, afterRounds, roundsRun, ranReply}
-use Rattle.model.specs.Windows.{Window, week, isOpen, ofWeek, roundsAt}
+use Rattle.model.specs.Windows.{Window, isOpen, ofWeek, roundsAt}
 use Rattle.model.specs.Refusals.{badWindows, badMinutes, settleRefusal, settleAtRefusal}
 use Rattle.model.specs.Calls.{written}
 use Rattle.laws.specs.Lists.{and-true, Above, Rising, rising-true}
-use Rattle.laws.specs.Accepted.{declined-answer, unchanged, settle-accepted, settle-at-accepted}
+use Rattle.laws.specs.Accepted.{declined-answer, unchanged, settle-accepted}
 use Rattle.theory.specs.Runs.{Good, good-kept}
 use Rattle.theory.specs.Turns.{round-lasts}
 use Rattle.turns.specs.Lasting.{Lasting}

@@ -14,7 +14,7 @@ use Rattle.model.specs.Answer.{Answer, accepted}
 use Rattle.model.specs.Steps.{uncounted}
 use Rattle.model.specs.New.{newTable}
 use Rattle.model.specs.Settle.{afterRound, afterRounds, roundsRun, afterSettle, settleReply}
-use Rattle.model.specs.Calls.{written, roundAnswer, roundWords, settleAnswer, settleWords, settleAtAnswer, settleAtWords}
+use Rattle.model.specs.Calls.{written, roundAnswer, roundWords, settleAnswer, settleWords}
 use Rattle.model.specs.Fold.{afterAll}
 use Rattle.model.specs.Service.{Service, Called, Round, Settle, SettleAt, serviceWords, served}
 use Rattle.laws.specs.Lists.{In, found, live-in, length-ids, any-in, count-any, count-length, count-not}

@@ -1,27 +1,26 @@
 -- The proof of what Windows states: a search of a week meets every minute of it, so also a window's start; and settle with windows is settle (laws, Windows).
-use mathlib.Core.Path.{_≡_, refl, sym, ap, ap₂, subst, _∙_}
+use mathlib.Core.Path.{_≡_, refl, sym, ap, subst, _∙_}
 use mathlib.Core.Logic.{_⊎_, inl, inr}
 use mathlib.Core.Bool.{Bool, true, false, not, _&&_, _||_, true≢false}
 use mathlib.Core.List.{List, [], _∷_}
 use mathlib.Core.Option.{Option, some, none}
-use Prim.Native.Nat.{ℕ, zero, suc, _+_, _-_, _≤_, _<_}
+use Prim.Native.Nat.{ℕ, suc, _+_, _-_, _≤_, _<_}
 use native.Mathlib.Omega.{arith}
-use lib.Dec.{ltb, leb, eqb}
-use lib.ListN.{length, getD}
-use borrow.Author.Tests.{eqb-true, eqb-false, leb-false, lt-leb, not-false}
+use lib.Dec.{leb, eqb}
+use lib.ListN.{getD}
+use borrow.Author.Tests.{eqb-true, leb-false, lt-leb}
 use Rattle.model.specs.Lists.{if_then_else_, option, every, bit}
 use Rattle.model.specs.Table.{Table, tableOf}
 use Rattle.model.specs.Ring.{verdict}
 use Rattle.model.specs.Answer.{Answer, accepted, answer}
 use Rattle.model.specs.Settle.{roundsRun}
-use Rattle.model.specs.Windows.{Window, week, windowsIn, paired, inWindow, isOpen, ofWeek, nextOpen, openMinutes}
-use Rattle.model.specs.Refusals.{rightWindow, badWindows, badMinutes, openRefusal}
-use Rattle.model.specs.Calls.{roundWords, settleWords, isOpenAnswer, nextOpenAnswer}
+use Rattle.model.specs.Windows.{Window, week, windowsIn, inWindow, isOpen, ofWeek, nextOpen, openMinutes}
+use Rattle.model.specs.Refusals.{rightWindow, badWindows, openRefusal}
+use Rattle.model.specs.Calls.{roundWords, isOpenAnswer, nextOpenAnswer}
 use Rattle.model.specs.Fold.{afterAll}
 use Rattle.laws.specs.Lists.{and-true, or-false}
-use Rattle.laws.specs.Order.{Comparison, less, equals, greater, compare, less?}
-use Rattle.laws.specs.Accepted.{none-applies}
-use Rattle.laws.specs.Windows.{RightWindow, right-window, inside, late, held-open, OpenAhead, finds, finds-none, search-ends, as-settle}
+use Rattle.laws.specs.Order.{less?}
+use Rattle.laws.specs.Windows.{right-window, start-open, right-windows, OpenAhead, finds, finds-none, search-ends, as-settle}
 use Rattle.theory.specs.Windows.{FirstOpen, NextIsFirst, NoneWithoutWindows, SettleAtIsSettle, roundAt, SettleAtIsRounds, SettleAtLeaves, SettleAtEnds}
 use Rattle.theory.specs.Bound.{rounds}
 use Rattle.theory.specs.Runs.{Good}
@@ -61,25 +60,12 @@ way m x h k = go (less? x m)
     go (inl l) = (x + week - m, omega arith, omega arith)
     go (inr l) = (x - m, omega arith, omega arith)
 
--- a right window holds its start
-start-open : (w : Window) → RightWindow w → inWindow (w .start) w ≡ true
-start-open w r = go (compare (w .end) (w .start))
-  where
-    go : Comparison (w .end) (w .start) → inWindow (w .start) w ≡ true
-    go (less l) = held-open (w .start) w (late l (omega arith))
-    go (equals q) = absurd (r .ends-differ (sym q))
-    go (greater l) = held-open (w .start) w (inside (omega arith) l (omega arith))
-
-all-right : (vs : List ℕ) → badWindows vs ≡ false → every rightWindow (windowsIn vs) ≡ true
-unfolding badWindows
-all-right vs b = and-true (paired vs && leb (length (windowsIn vs)) 16) (every rightWindow (windowsIn vs)) (not-false _ b) .1
-
 -- so with a window some minute of the week is open
 some-open : (ws : List Window) (w : Window) → every rightWindow (w ∷ ws) ≡ true → (m : ℕ) → m < week → ((j : ℕ) → j < week → isOpen (w ∷ ws) (ofWeek (m + j)) ≡ false) → ⊥
 some-open ws w e m h closed =
     let r = right-window w (and-true (rightWindow w) _ e .0) in
     let d = way m (w .start) h (r .start-low) in
-    true≢false (sym (opened (inWindow (w .start) w) (start-open w r)) ∙ (ap (isOpen (w ∷ ws)) (sym (d .2)) ∙ closed (d .0) (d .1)))
+    true≢false (sym (opened (inWindow (w .start) w) (start-open r)) ∙ (ap (isOpen (w ∷ ws)) (sym (d .2)) ∙ closed (d .0) (d .1)))
   where
     opened : (b : Bool) → b ≡ true → (b || isOpen ws (w .start)) ≡ true
     opened b q = rw q
@@ -121,7 +107,7 @@ none-without-windows vs m b h = (λ e. only (windowsIn vs) refl e, λ e. tells-n
       where
         go : ((i : ℕ) × (i < week) × OpenAhead (w ∷ ws) m i) ⊎ ((j : ℕ) → j < week → isOpen (w ∷ ws) (ofWeek (m + j)) ≡ false) → windowsIn vs ≡ []
         go (inl (i, l, o)) = absurd (omega (arith, ap (λ (y : Answer). getD (y .values) 0 0) (sym e ∙ tells-next vs b m h (some (ofWeek (m + i))) (rw q (next-found (w ∷ ws) m i l o)))))
-        go (inr c) = absurd (some-open ws w (rw q at (all-right vs b)) m h c)
+        go (inr c) = absurd (some-open ws w (rw q at (right-windows vs b .each)) m h c)
 
 -- Settle with windows
 

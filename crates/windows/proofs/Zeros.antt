@@ -1,18 +1,14 @@
 -- The words of windows in an array of 32, and zeros after them: these say windows that hold nothing. Assumes nothing.
 use Prim.Native.Nat.{ℕ, zero, suc, _+_, _-_, _≤_, _<_}
 use mathlib.Core.Path.{_≡_, refl, sym, ap, _∙_}
-use mathlib.Core.Bool.{Bool, true, false, _&&_, _||_, false≢true}
+use mathlib.Core.Bool.{Bool, true, false, _||_, false≢true}
 use mathlib.Core.List.{List, [], _∷_, _++_, append-assoc}
 use native.Mathlib.Omega.{arith}
-use lib.Dec.{leb}
 use lib.ListN.{length, getD, take, set, replicate, length-append, length-replicate}
 use lib.Seq.{take-suc, take-all, set-at, length-take-le}
-use borrow.Author.Tests.{not-false}
-use Rattle.model.specs.Lists.{every}
 use Rattle.model.specs.Windows.{window, windowsIn, paired, inWindow, isOpen}
-use Rattle.model.specs.Refusals.{rightWindow, badWindows}
-use Rattle.laws.specs.Lists.{and-true}
-use Rattle.laws.specs.Windows.{behind, shut-closed}
+use Rattle.model.specs.Refusals.{badWindows}
+use Rattle.laws.specs.Windows.{behind, shut-closed, right-windows}
 
 -- so many words are there
 abbrev pub filled : List ℕ → ℕ → List ℕ
@@ -45,7 +41,4 @@ paired-hold (s ∷ e ∷ ws) k m h = ap (λ (b : Bool). inWindow m (window s e) 
 
 -- so they open no minute
 pub padding-opens : (ws : List ℕ) (k m : ℕ) → badWindows ws ≡ false → isOpen (windowsIn (ws ++ replicate k 0)) m ≡ isOpen (windowsIn ws) m
-unfolding badWindows
-padding-opens ws k m b =
-    let a = and-true (paired ws && leb (length (windowsIn ws)) 16) (every rightWindow (windowsIn ws)) (not-false _ b) in
-    paired-hold ws k m (and-true (paired ws) _ (a .0) .0)
+padding-opens ws k m b = paired-hold ws k m (right-windows ws b .pairs)

@@ -1,4 +1,4 @@
-//! The eighteen calls as one value, so that a side can be exchanged.
+//! The twenty-one calls as one value, so that a side can be exchanged.
 
 use crate::reference::{Answer, Finding, Runs};
 
@@ -16,6 +16,9 @@ pub struct Calls {
     pub findings: fn(&[u32], &mut [Finding]) -> Answer,
     pub round: fn(&mut [u32]) -> Answer,
     pub settle: fn(&mut [u32], u32) -> Answer,
+    pub is_open: fn(&[u32], u32) -> Answer,
+    pub next_open: fn(&[u32], u32) -> Answer,
+    pub settle_at: fn(&mut [u32], &[u32], &[u32]) -> Answer,
     pub alike: fn(&[u32], &[u32]) -> Answer,
     pub take_over: fn(u32, u32, u32, &[u32], &[u32]) -> Answer,
     pub image_write: fn(&[u32], &mut [u8]) -> Answer,
@@ -41,6 +44,9 @@ macro_rules! calls_of {
             findings: $($module)::+::findings,
             round: $($module)::+::round,
             settle: $($module)::+::settle,
+            is_open: $($module)::+::is_open,
+            next_open: $($module)::+::next_open,
+            settle_at: $($module)::+::settle_at,
             alike: $($module)::+::alike,
             take_over: $($module)::+::take_over,
             image_write: $($module)::+::image_write,

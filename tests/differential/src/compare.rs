@@ -4,7 +4,9 @@
 mod alike;
 mod alone;
 mod counts;
+mod deeds;
 mod find;
+mod hours;
 mod ideal;
 mod join;
 mod lent;
@@ -14,8 +16,10 @@ mod parts;
 mod passed;
 mod principal;
 mod settle;
+mod settle_at;
 mod shapes;
 mod turns;
+mod weeks;
 mod withdrawals;
 
 use crate::calls::{Calls, REFERENCE};
@@ -25,6 +29,7 @@ use alike::Alikes;
 use alone::Alone;
 use counts::{Counts, Made};
 use find::Finds;
+use hours::Hours;
 use ideal::Ideals;
 use join::Joins;
 use lent::{nothing, Lent};
@@ -34,8 +39,10 @@ use parts::Parts;
 use passed::Passed;
 use principal::Principals;
 use settle::Settles;
+use settle_at::SettlesAt;
 use std::sync::atomic::{AtomicUsize, Ordering};
 use turns::Turns;
+use weeks::Weeks;
 use withdrawals::Withdrawals;
 
 /// The call under way on the library's side, as a place in `NAMES` plus 1, so
@@ -55,7 +62,7 @@ fn watched<T>(index: usize, call: impl FnOnce() -> T) -> T {
     given
 }
 
-const CALLS: usize = 18;
+const CALLS: usize = 21;
 
 pub const NAMES: [&str; CALLS] = [
     "new",
@@ -71,6 +78,9 @@ pub const NAMES: [&str; CALLS] = [
     "findings",
     "round",
     "settle",
+    "is_open",
+    "next_open",
+    "settle_at",
     "alike",
     "take_over",
     "image_write",
@@ -112,9 +122,9 @@ impl Reply for Answer {
     fn sort(&self, name: &str) -> u32 {
         match name {
             "stabilize" | "rectify" | "principal" | "alike" | "take_over" => self.values[0],
+            "round" | "is_open" | "next_open" => self.values[0],
+            "settle" | "settle_at" => self.values[1],
             "audit" | "findings" => self.values[3],
-            "round" => self.values[0],
-            "settle" => self.values[1],
             _ => 0,
         }
     }
@@ -140,7 +150,8 @@ impl Reply for Runs {
 
 /// The numbers each call can give, in the order of `NAMES`. Stabilize's three
 /// replies and audit's three verdicts count as 0, 20 and 21, no and yes as 0 and
-/// 20, held's one run and two as 20 and 21, a round's and settle's verdicts 1 and 2 too.
+/// 20, closed and open, none and some too; held's one run and two as 20 and 21, a round's and
+/// the settles' verdicts 1 and 2 too.
 const POSSIBLE: [&[usize]; CALLS] = [
     &[0, 10, 11],
     &[0, 1, 2, 3, 4, 13, 5],
@@ -155,6 +166,9 @@ const POSSIBLE: [&[usize]; CALLS] = [
     &[0, 20, 21, 1, 10],
     &[20, 21, 1, 14],
     &[20, 21, 1, 14],
+    &[0, 20, 15],
+    &[0, 20, 15],
+    &[20, 21, 1, 15, 16, 14],
     &[0, 20, 1],
     &[0, 20],
     &[0, 1, 10],
@@ -183,6 +197,9 @@ pub struct Compare {
     alone: Alone,
     withdrawals: Withdrawals,
     settles: Settles,
+    hours: Hours,
+    settles_at: SettlesAt,
+    weeks: Weeks,
     turns: Turns,
     finds: Finds,
     passed: Passed,
@@ -215,6 +232,9 @@ impl Compare {
             alone: Alone::new(),
             withdrawals: Withdrawals::new(),
             settles: Settles::new(),
+            hours: Hours::new(),
+            settles_at: SettlesAt::new(),
+            weeks: Weeks::new(),
             turns: Turns::new(),
             finds: Finds::new(),
             passed: Passed::new(),
@@ -245,6 +265,9 @@ impl Compare {
         text += &format!("  alone: {}\n", self.alone.told());
         text += &format!("  withdrawals: {}\n", self.withdrawals.told());
         text += &format!("  settle: {}\n", self.settles.told());
+        text += &format!("  hours: {}\n", self.hours.told());
+        text += &format!("  settle with windows: {}\n", self.settles_at.told());
+        text += &format!("  weeks: {}\n", self.weeks.told());
         text += &format!("  turns: {}\n", self.turns.told());
         text += &format!("  find: {}\n", self.finds.told());
         text += &format!("  passed: {}\n", self.passed.told());
@@ -271,6 +294,9 @@ impl Compare {
             ("alone:", self.alone.never_met()),
             ("withdrawals:", self.withdrawals.never_met()),
             ("settle:", self.settles.never_met()),
+            ("hours:", self.hours.never_met()),
+            ("settle with windows:", self.settles_at.never_met()),
+            ("weeks:", self.weeks.never_met()),
             ("turns:", self.turns.never_met()),
             ("find:", self.finds.never_met()),
             ("passed:", self.passed.never_met()),

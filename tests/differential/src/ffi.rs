@@ -38,6 +38,16 @@ mod library {
         ) -> Answer;
         pub fn ring_round(table: *mut u32, words: usize) -> Answer;
         pub fn ring_settle(table: *mut u32, words: usize, limit: u32) -> Answer;
+        pub fn ring_is_open(windows: *const u32, words: usize, minute: u32) -> Answer;
+        pub fn ring_next_open(windows: *const u32, words: usize, minute: u32) -> Answer;
+        pub fn ring_settle_at(
+            table: *mut u32,
+            table_words: usize,
+            windows: *const u32,
+            window_words: usize,
+            minutes: *const u32,
+            count: usize,
+        ) -> Answer;
         pub fn ring_alike(a: *const u32, a_words: usize, b: *const u32, b_words: usize) -> Answer;
         pub fn ring_take_over(
             own: u32,
@@ -113,6 +123,19 @@ forward! {
         = ring_round(table.as_mut_ptr(), table.len());
     fn settle(table: &mut [u32], limit: u32) -> Answer
         = ring_settle(table.as_mut_ptr(), table.len(), limit);
+    fn is_open(windows: &[u32], minute: u32) -> Answer
+        = ring_is_open(windows.as_ptr(), windows.len(), minute);
+    fn next_open(windows: &[u32], minute: u32) -> Answer
+        = ring_next_open(windows.as_ptr(), windows.len(), minute);
+    fn settle_at(table: &mut [u32], windows: &[u32], minutes: &[u32]) -> Answer
+        = ring_settle_at(
+            table.as_mut_ptr(),
+            table.len(),
+            windows.as_ptr(),
+            windows.len(),
+            minutes.as_ptr(),
+            minutes.len()
+        );
     fn alike(a: &[u32], b: &[u32]) -> Answer
         = ring_alike(a.as_ptr(), a.len(), b.as_ptr(), b.len());
     fn take_over(own: u32, h: u32, c: u32, h_list: &[u32], c_list: &[u32]) -> Answer

@@ -1,6 +1,6 @@
-//! The layout of a table in words and of an image in bytes, as the harness makes and reads
-//! them. No other file of it counts words or bytes; the reference and the second writing have
-//! numbers of their own.
+//! The layout of a table in words, of an image in bytes and of the windows of a week, as the
+//! harness makes and reads them. No other file of it counts words or bytes; the reference and
+//! the second writing have numbers of their own.
 
 // The words of a table's header, and how many they are. Its step count is 0 always.
 pub const R: usize = 0;
@@ -80,6 +80,12 @@ pub fn steps(record: &[u32]) -> u32 {
 pub fn uncounted(record: &[u32]) -> &[u32] {
     &record[..record.len() - 1]
 }
+
+/// The minutes of a week, which service hours are set for.
+pub const WEEK: u32 = 10_080;
+
+/// How many windows there may be. They are words, start and end by turns.
+pub const MOST_WINDOWS: usize = 16;
 
 // A field of an image: its head is a tag and two bytes for the length of the contents, the
 // high one first; then come the contents.

@@ -2,11 +2,16 @@
 //! damaged.
 
 mod counts;
+mod hours;
 mod pairs;
 mod sound;
 
 pub use counts::{
     count_apart, count_steps, count_to_the_end, counted, header_steps, older_image, older_table,
+};
+pub use hours::{
+    are_sparse, asked, bad_windows, damage_minutes, good_windows, hours, lent_minutes, minutes,
+    minutes_both, minutes_of, no_windows, one_minute,
 };
 pub use pairs::{alike, another, untold};
 pub use sound::{cut_off, slowest, sound, stale, stalest, Ring};

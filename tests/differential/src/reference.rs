@@ -3,10 +3,12 @@
 //! A refusal changes no buffer, and only the words a call writes change.
 
 mod calls;
+mod hours;
 mod image;
 mod steps;
 
 pub use calls::*;
+pub use hours::{is_open, next_open, settle_at};
 pub use image::{image_field, image_read, image_write};
 pub use steps::{round, settle};
 

@@ -5,6 +5,7 @@ mod alike;
 mod counts;
 mod find;
 mod held;
+mod hours;
 mod ideal;
 mod images;
 mod join;
@@ -16,6 +17,7 @@ use alike::{alike, alike_alone, pairs};
 use counts::counts;
 use find::{find, full_find};
 use held::{held, held_calls};
+use hours::{hours, hours_calls};
 use ideal::{full_ideal, ideal};
 use images::{image, read_image};
 use join::join;
@@ -34,7 +36,7 @@ type Result = std::result::Result<(), String>;
 type Round = fn(&mut Compare, &mut Random) -> Result;
 
 /// The kinds of rounds in turn.
-const KINDS: [(&str, Round); 23] = [
+const KINDS: [(&str, Round); 24] = [
     ("tiny", tiny),
     ("sound churn", sound_churn),
     ("broken", broken),
@@ -58,6 +60,7 @@ const KINDS: [(&str, Round); 23] = [
     ("find", find),
     ("counts", counts),
     ("pairs", pairs),
+    ("hours", hours),
 ];
 
 /// Runs one round; the error tells what differs and how to see it again.
@@ -84,6 +87,8 @@ pub fn alone(compare: &mut Compare, seed: u64, number: u64) -> Result {
     compare.withdrawals(&mut random, false)?;
     compare.turns(&mut random, number % 200 == 7)?;
     compare.passed(&mut random, number % 25 == 9)?;
+    compare.weeks(&mut random, number % 20 == 0)?;
+    compare.settles_at(&mut random)?;
     alike_alone(compare, &mut random, number % 100 == 11)
 }
 
@@ -165,6 +170,7 @@ fn all_calls(compare: &mut Compare, random: &mut Random, t: &Piece<u32>, amount:
     }
     held_calls(compare, random, t, &callers)?;
     settle_calls(compare, random, t)?;
+    hours_calls(compare, random, t)?;
     compare.audit(t)?;
     compare.alike_itself(t)?;
     let count = if well_formed { t.slice()[COUNT] as usize } else { random.below(6) };
@@ -332,6 +338,13 @@ fn run_churn(compare: &mut Compare, random: &mut Random, sound: bool, length: us
                 } else {
                     compare.fail(&t, n)?
                 }
+            }
+            97 => {
+                // A round or two, where the table is sound.
+                let windows = make::good_windows(random);
+                let open = random.range(1, 2);
+                let list = make::minutes_of(random, windows.slice(), open, 1);
+                compare.settle_at(&t, &windows, &make::lent_minutes(random, list))?
             }
             _ => compare.lookup(&t, n, space.pick(random))?,
         };

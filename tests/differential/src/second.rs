@@ -8,26 +8,32 @@ mod calls;
 mod counts;
 mod faults;
 mod held;
+mod hours;
 mod ideal;
 mod image;
 mod join;
 mod passed;
+mod plant;
 mod principal;
 mod settle;
+mod settle_at;
 
 pub use alike::*;
 pub use alone::ALONE;
 pub use calls::*;
-pub use faults::{plant, Fault, FAULTS};
+pub use faults::{Fault, FAULTS};
 pub use held::*;
+pub use hours::{is_open, next_open};
 pub use image::*;
 pub use join::*;
+pub use plant::plant;
 pub use principal::*;
-pub use settle::*;
+pub use settle::{round, settle};
+pub use settle_at::settle_at;
 
 use crate::reference::{Answer, Finding, Runs};
-use faults::planted;
 use ideal::verdict;
+use plant::planted;
 
 fn yes<const COUNT: usize>(said: [u32; COUNT]) -> Answer {
     let mut values = [0; 4];

@@ -1,6 +1,6 @@
 -- `rounds_at` meets its contract. The loop's invariant: what is left to run, by the minutes from place i on, is what all that is run leads to; and there are no
 -- more rounds than minutes passed. Assumes nothing.
-use Prim.Native.Nat.{ℕ, _+_, _-_, _≤_}
+use Prim.Native.Nat.{ℕ, _-_, _≤_}
 use mathlib.Core.Path.{_≡_, refl, sym, ap, _∙_}
 use native.Mathlib.Omega.{arith}
 use mathlib.Core.List.{List}

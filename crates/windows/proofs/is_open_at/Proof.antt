@@ -1,10 +1,10 @@
 -- `is_open_at` meets its contract. The invariant: one that held it was found, or one from place i on holds it, just if one of all does. Assumes nothing.
 use Prim.Native.Nat.{_-_, _≤_}
-use mathlib.Core.Path.{_≡_, refl, sym, ap, _∙_}
-use mathlib.Core.Bool.{Bool, true, _||_}
+use mathlib.Core.Path.{_≡_, refl, sym, _∙_}
+use mathlib.Core.Bool.{_||_}
 use native.Mathlib.Omega.{arith}
 use borrow.Author.Needs.{needs}
-use lib.ListN.{length, drop}
+use lib.ListN.{drop}
 use Rattle.model.specs.Windows.{windowsIn, isOpen}
 use Rattle.windows.proofs.Words.{found-on, found-here, found-end}
 use Rattle.windows.proofs.is_open_at.Statement.{statement}

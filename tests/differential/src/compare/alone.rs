@@ -1,28 +1,31 @@
 //! Runs of the library alone, from a new table. Losses are only those that a
 //! withdrawal is granted. From one loss to the next, while only joins, stabilize and
-//! rectify steps are made:
+//! rectify steps and rounds at open minutes are made:
 //! - a member whose first entry was live never says again, so a new one never does;
 //! - another says again fewer than r times;
 //! - 13 declines a join behind a dead first entry, and no other;
 //! - r steps of p are enough to make its first entry a member, and then 13 no
-//!   longer declines a join by p.
+//!   longer declines a join by p;
+//! - a round leaves each first entry live.
 
 use super::join::{first_entry, is_member, joined};
 use super::lone::Lone;
 use super::shapes::Shapes;
 use super::{Compare, Result};
+use crate::calls::Calls;
 use crate::layout::{self, record, records, CANDIDATE, COUNT, ID, LIST, PENDING, R};
 use crate::make::{self, Space};
 use crate::random::Random;
 use std::collections::{BTreeMap, BTreeSet};
 
 /// What these runs must meet.
-const SHAPES: [&str; 8] = [
+const SHAPES: [&str; 9] = [
     "joins",
     "steps of a new member",
     "agains of a member with a dead first entry",
     "candidates that are no member",
     "losses",
+    "rounds at open minutes",
     "13",
     "13, again, accepted",
     "13, a pending step and again, accepted",
@@ -169,6 +172,27 @@ impl Run<'_> {
         Ok(())
     }
 
+    /// Settle with windows and an open minute or two. Its rounds are steps and notices, and leave
+    /// each first entry live.
+    fn some_rounds(&mut self, random: &mut Random) -> Result<()> {
+        let windows = make::good_windows(random);
+        let open = random.range(1, 2);
+        let list = make::minutes_of(random, windows.slice(), open, 1);
+        let minutes = make::lent_minutes(random, list);
+        let call = |c: &Calls, t: &mut [u32]| (c.settle_at)(t, windows.slice(), minutes.slice());
+        if self.table.accepted("settle_at", &[], call)?[0] == 0 {
+            return Ok(());
+        }
+        let words = self.table.words();
+        if let Some(own) = records(words).find(|m| !is_member(words, m[LIST])) {
+            let what = format!("{} keeps a dead first entry", own[ID]);
+            return self.table.wrong("settle_at", what);
+        }
+        self.settled.extend(self.table.members());
+        self.shapes.meet("rounds at open minutes");
+        Ok(())
+    }
+
     /// The table must be sound.
     fn sound(&mut self) -> Result<()> {
         let verdict = self.table.accepted("audit", &[], |c, t| (c.audit)(t))?[3];
@@ -208,6 +232,7 @@ impl Run<'_> {
                 let n = if new.is_empty() || random.one_in(2) { n } else { random.pick(&new) };
                 self.step(n)
             }
+            8 if random.one_in(12) => self.some_rounds(random),
             _ => {
                 // A notice from a member or from anybody.
                 let q = if random.one_in(3) { space.pick(random) } else { random.pick(&members) };

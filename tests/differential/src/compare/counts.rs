@@ -1,8 +1,8 @@
 //! The step counts before and after a call, held to their own rule, and what a run must meet of
 //! them. The rule asks no side:
 //! - a member before and after a call keeps its count, but an accepted stabilize adds 1 to its
-//!   own member's, a round 1 to r + 2 to each, a settle of k rounds k to k (r + 2) to each; a
-//!   count stops at the largest word;
+//!   own member's, a round 1 to r + 2 to each, a settle of k rounds, with windows too, k to
+//!   k (r + 2) to each; a count stops at the largest word;
 //! - a shelf that joins, and each member by new, has 0, and by reading what the image says;
 //! - the header's count is 0 after an accepted call, and where it is not, 1 declines the call;
 //! - of tables in the layout before this one none with a step count is well-formed, nor any of
@@ -19,9 +19,9 @@ use std::collections::BTreeSet;
 /// The largest word.
 const LARGEST: u32 = u32::MAX;
 
-/// What calls must meet. Different are the counts of two or more members, all of those that are
-/// there or that move.
-const SHAPES: [&str; 37] = [
+/// What calls must meet; windows stands for settle with windows. Different are the counts of two
+/// or more members, all of those that are there or that move.
+const SHAPES: [&str; 42] = [
     "again to 4294967295",
     "look to 4294967295",
     "done to 4294967295",
@@ -40,6 +40,11 @@ const SHAPES: [&str; 37] = [
     "a settle adds as many as its rounds to some, more to others",
     "a settle of 256 members, different counts",
     "a settle without a round, different counts",
+    "windows, some to 4294967295 and others not",
+    "windows, some at 4294967295 and others not",
+    "windows, as many as the rounds for some, more for others",
+    "windows, 256 members, different counts",
+    "windows, no round, different counts",
     "a join, records with different counts move",
     "a join between, over a word that is not 0",
     "a join above all, over a word that is not 0",
@@ -77,7 +82,7 @@ const OLDER: [&str; 11] = [
 ];
 
 /// The calls that take no table, or make one without looking at the old words.
-const OTHERS: [&str; 4] = ["new", "take_over", "image_read", "image_field"];
+const OTHERS: [&str; 6] = ["new", "is_open", "next_open", "take_over", "image_read", "image_field"];
 const SECOND: &str = "alike, the second table";
 const TAKING: usize = NAMES.len() - OTHERS.len() + 1;
 
@@ -118,7 +123,7 @@ impl Made<'_> {
         match self.name {
             "stabilize" => [(member == self.first) as u64; 2],
             "round" => rounds(1),
-            "settle" => rounds(self.values[0]),
+            "settle" | "settle_at" => rounds(self.values[0]),
             _ => [0; 2],
         }
     }
@@ -234,7 +239,7 @@ impl Counts {
         }
         match made.name {
             "stabilize" => self.count_step(made, before, after),
-            "round" | "settle" => self.count_rounds(made, before, after),
+            "round" | "settle" | "settle_at" => self.count_rounds(made, before, after),
             "join" | "fail" | "leave" => self.count_moves(made, before, after),
             "rectify" if made.values[0] == 1 && are_different(after, 0) => {
                 self.shapes.meet("a notice is new, different counts");
@@ -261,11 +266,14 @@ impl Counts {
     }
 
     fn count_rounds(&mut self, made: &Made, before: &[u32], after: &[u32]) {
-        let round = made.name == "round";
+        let [round, hours] = ["round", "settle_at"].map(|name| made.name == name);
         let ran = if round { 1 } else { made.values[0] };
         if ran == 0 {
             let none = are_different(after, 0);
-            return self.shapes.meet_each(&[(none, "a settle without a round, different counts")]);
+            return self.shapes.meet_each(&[
+                (none && !hours, "a settle without a round, different counts"),
+                (none && hours, "windows, no round, different counts"),
+            ]);
         }
         let both = || records(before).map(steps).zip(records(after).map(steps));
         let [to, at] = [false, true]
@@ -281,6 +289,13 @@ impl Counts {
                 (apart, "a round adds 1 to some, more to others"),
                 (after[R] > 1 && added(after[R] + 2), "a round adds r + 2"),
                 (full, "a round of 256 members, different counts"),
+            ]);
+        } else if hours {
+            self.shapes.meet_each(&[
+                (to && others, "windows, some to 4294967295 and others not"),
+                (at && others, "windows, some at 4294967295 and others not"),
+                (apart, "windows, as many as the rounds for some, more for others"),
+                (full, "windows, 256 members, different counts"),
             ]);
         } else {
             self.shapes.meet_each(&[

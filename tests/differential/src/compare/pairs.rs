@@ -8,14 +8,12 @@
 //!   they become alike.
 
 use super::alike::{asked, is_alike};
+use super::deeds::{Deed, Told};
 use super::lone::Lone;
 use super::shapes::Shapes;
-use super::{kind, place, Compare, Piece, Reply, Result, CALLS, NAMES, POSSIBLE};
-use crate::keys;
-use crate::layout::{self, record, records, rest, steps, COUNT, ID, LIST, PENDING, R};
-use crate::make;
+use super::{place, Compare, Piece, Result, CALLS, NAMES, POSSIBLE};
+use crate::layout::{self, records, rest, steps, COUNT, R};
 use crate::random::Random;
-use crate::reference::{Answer, Finding, Runs};
 
 /// What the pairs must meet. Untold are those that are not alike at first.
 const SHAPES: [&str; 15] = [
@@ -37,7 +35,8 @@ const SHAPES: [&str; 15] = [
 ];
 
 /// The calls that no pair gets: they make a table, or take none, or two.
-const OTHERS: [&str; 5] = ["new", "alike", "take_over", "image_read", "image_field"];
+const OTHERS: [&str; 7] =
+    ["new", "is_open", "next_open", "alike", "take_over", "image_read", "image_field"];
 
 /// What was met, with the reference or without it, each call by its number and reply, and how many
 /// calls found the pair not alike.
@@ -92,116 +91,6 @@ impl Pairs {
     }
 }
 
-/// A call that both tables get: its numbers, keys, and room for findings or bytes.
-#[derive(Clone, Debug)]
-struct Deed {
-    name: &'static str,
-    numbers: [u32; 2],
-    keys: Vec<u32>,
-    room: usize,
-}
-
-impl Deed {
-    /// Some call, mostly of a member and of who could join by it. `shelves` are named too.
-    fn any(random: &mut Random, words: &[u32], shelves: &[u32]) -> Deed {
-        let (r, n) = (words[R] as usize, words[COUNT] as usize);
-        let mut some = make::names(random, words, 2);
-        if !shelves.is_empty() && random.one_in(2) {
-            some[0] = random.pick(shelves);
-        }
-        let member = (n > 0).then(|| records(words).nth(random.below(n)).expect("a member"));
-        let x = match member {
-            Some(own) if !random.one_in(9) => own[ID],
-            _ => some[1],
-        };
-        let mut deed = Deed { name: "audit", numbers: [x, some[0]], keys: vec![], room: 0 };
-        deed.name = match random.below(100) {
-            0..=21 => {
-                // Between p and its first entry, if the name is of no use.
-                let (p, first) = member.map_or((x, x), |own| (own[ID], own[LIST]));
-                let way = first.wrapping_sub(p).wrapping_sub(1).max(1);
-                let between = p.wrapping_add(1 + random.word() % way);
-                let j = if random.one_in(3) { some[0] } else { between };
-                deed.numbers = [j, if random.one_in(9) { some[1] } else { p }];
-                "join"
-            }
-            22..=45 => "stabilize",
-            46..=56 => "rectify",
-            57..=63 => "leave",
-            64..=68 => "fail",
-            69..=74 => "lookup",
-            75..=78 => {
-                deed.keys = keys::rising(random, words);
-                if random.one_in(6) {
-                    deed.keys.extend([x, x]);
-                }
-                "held"
-            }
-            79..=82 => "principal",
-            83..=85 => "audit",
-            86..=89 => {
-                deed.room = (n + random.below(3)).saturating_sub(random.below(2));
-                "findings"
-            }
-            90..=92 => "round",
-            93..=95 => {
-                let limit = random.word();
-                deed.numbers[0] = random.pick(&[0, 1, 2, 3, 256, u32::MAX, limit]);
-                "settle"
-            }
-            _ => {
-                deed.room = layout::image_size(r, n) + random.below(3) - random.below(2);
-                "image_write"
-            }
-        };
-        deed
-    }
-
-    /// Could it end a pending step: by that step, by a round, or as its member goes?
-    fn steps(&self, words: &[u32]) -> bool {
-        let waits = |n: u32| record(words, n).is_some_and(|own| own[PENDING] == 1);
-        matches!(self.name, "round" | "settle")
-            || (matches!(self.name, "stabilize" | "leave" | "fail") && waits(self.numbers[0]))
-    }
-
-    fn findings(&self) -> Vec<Finding> {
-        vec![Finding { id: 7, principal: 8, moves: 9 }; self.room]
-    }
-}
-
-/// What a call replied: as `kind` sorts it, its numbers, the findings, and the image but for
-/// its step counts.
-#[derive(PartialEq, Debug)]
-struct Told {
-    kind: usize,
-    number: u32,
-    said: Vec<u64>,
-    findings: Vec<Finding>,
-    image: Vec<u8>,
-}
-
-impl Told {
-    fn of(name: &str, answer: Answer, findings: Vec<Finding>) -> Told {
-        let mut said = vec![answer.count as u64];
-        said.extend(answer.values.map(u64::from));
-        Told { kind: kind(name, &answer), number: answer.number, said, findings, image: vec![] }
-    }
-
-    fn with_image(mut self, image: Vec<u8>) -> Told {
-        if self.number == 0 {
-            self.image = layout::without_counts(image);
-        }
-        self
-    }
-
-    fn of_runs(name: &str, runs: Runs) -> Told {
-        let mut said = vec![runs.runs as u64];
-        said.extend(runs.start.iter().chain(&runs.end).map(|&at| at as u64));
-        let (number, findings, image) = (runs.number(), vec![], vec![]);
-        Told { kind: kind(name, &runs), number, said, findings, image }
-    }
-}
-
 /// The two tables, of both sides or of the library alone.
 trait Tables {
     fn words(&self, of: usize) -> &[u32];
@@ -250,6 +139,7 @@ impl Tables for Compared<'_> {
             "principal" => c.principal(t, x)?,
             "round" => c.round(t)?,
             "settle" => c.settle(t, x)?,
+            "settle_at" => c.settle_at(t, &deed.hours[0], &deed.hours[1])?,
             _ => c.audit(t)?,
         };
         self.tables[of] = Piece::whole(outcome.first);
@@ -286,6 +176,7 @@ impl Tables for Alone {
         if name == "findings" {
             findings = deed.findings();
         }
+        let [windows, minutes] = deed.hours.each_ref().map(Piece::slice);
         let answer = table.call(name, &deed.numbers, |c, t| match name {
             "findings" => (c.findings)(t, &mut findings),
             "image_write" => (c.image_write)(t, &mut image),
@@ -298,6 +189,7 @@ impl Tables for Alone {
             "principal" => (c.principal)(t, x),
             "round" => (c.round)(t),
             "settle" => (c.settle)(t, x),
+            "settle_at" => (c.settle_at)(t, windows, minutes),
             _ => (c.audit)(t),
         })?;
         let told = Told::of(name, answer, findings);
@@ -404,7 +296,7 @@ impl<T: Tables> Run<'_, T> {
             (!room && declined(5), "untold, no room, a join as a candidate declined by 5"),
             (room && step, "untold, room, alike after a step"),
             (!room && step, "untold, no room, alike after a step"),
-            (by(&["round", "settle"]), "untold, alike after a round or settle"),
+            (by(&["round", "settle", "settle_at"]), "untold, alike after a round or settle"),
             (by(&["leave", "fail"]), "untold, alike after a loss or withdrawal"),
         ]);
         self.alike = alike;

@@ -72,8 +72,10 @@ impl Compare {
         format!(
             "keys parted on {} tables, {} owners found; principals counted on {} tables; \
              {} runs of the library alone; {} withdrawals from verdict 2; {} rounds held to \
-             their turns, {} settlings to their rounds; {} finds to the searches of their members; \
-             {} times alike asked of the library alone, {} pairs of tables with {} calls on each",
+             their turns, {} settlings to their rounds, {} with windows to rounds at their open \
+             minutes; {} weeks asked for minute by minute, {} minutes of the library alone; \
+             {} finds held to the searches of their members; {} times alike asked of the library \
+             alone, {} pairs of tables with {} calls on each",
             self.parts.tables,
             self.parts.finds,
             self.principals.tables,
@@ -81,6 +83,9 @@ impl Compare {
             self.withdrawals.made,
             self.turns.rounds,
             self.turns.settlings,
+            self.weeks.settlings,
+            self.hours.weeks,
+            self.weeks.asked,
             self.passed.finds,
             self.alikes.asked,
             self.pairs.made,

@@ -19,11 +19,12 @@ use crate::make::{self, Space};
 use crate::random::Random;
 
 /// What these runs must meet. Neighbours are two or more.
-const SHAPES: [&str; 21] = [
+const SHAPES: [&str; 22] = [
     "a new table",
     "verdict 2 by a step",
     "verdict 2 by a notice",
     "verdict 2 by settle",
+    "verdict 2 by settle with windows",
     "a pending step",
     "256 members",
     "all promised are granted",
@@ -178,18 +179,28 @@ impl Run<'_> {
         Ok(1)
     }
 
-    /// Settle, with the rounds that are enough: members - principals + r.
-    fn settle(&mut self) -> Result<()> {
+    /// Settle, with the rounds that are enough, members - principals + r; or with as many open
+    /// minutes.
+    fn settle(&mut self, random: &mut Random) -> Result<()> {
         let ideal = self.verdict()? == 2;
         let [members, principals, ..] = self.table.accepted("audit", &[], |c, t| (c.audit)(t))?;
         let enough = members - principals + self.table.words()[R];
-        let told = self.table.accepted("settle", &[enough], |c, t| (c.settle)(t, enough))?;
+        let windows = make::good_windows(random);
+        let list = make::minutes_of(random, windows.slice(), enough as usize, 3);
+        let minutes = make::lent_minutes(random, list);
+        let by_hours = windows.len > 0 && random.one_in(2);
+        let name = if by_hours { "settle_at" } else { "settle" };
+        let told = self.table.accepted(name, &[enough], |c, t| match by_hours {
+            true => (c.settle_at)(t, windows.slice(), minutes.slice()),
+            false => (c.settle)(t, enough),
+        })?;
         if (told[0] == 0) != ideal || told[1] != 2 || self.verdict()? != 2 {
-            return self.table.wrong("settle", format!("{enough} rounds are given {told:?}"));
+            return self.table.wrong(name, format!("{enough} rounds are given {told:?}"));
         }
-        if !ideal {
-            self.shapes.meet("verdict 2 by settle");
-        }
+        self.shapes.meet_each(&[
+            (!ideal && !by_hours, "verdict 2 by settle"),
+            (!ideal && by_hours, "verdict 2 by settle with windows"),
+        ]);
         Ok(())
     }
 
@@ -329,7 +340,7 @@ impl Compare {
                 run.some_call(random, joins)?;
             }
             if run.settle_late(random)? != 2 {
-                run.settle()?;
+                run.settle(random)?;
             }
         }
         if full {

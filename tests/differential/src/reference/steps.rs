@@ -72,7 +72,7 @@ impl Table {
     /// "In a round each member, by rising identifier, first finishes a pending step and
     /// delivers its notice, then takes stabilize steps until "done" and delivers that
     /// notice." A step that finishes a pending one is always done.
-    fn run_round(&mut self) {
+    pub fn run_round(&mut self) {
         for place in 0..self.members.len() {
             if self.members[place].pending {
                 self.steps_until_done(place);
@@ -81,17 +81,17 @@ impl Table {
         }
     }
 
-    fn is_at_two(&self) -> bool {
+    pub fn is_at_two(&self) -> bool {
         self.is_ideal() && self.is_sound()
     }
 
     /// What the searches of all members pass over, on a table that is sound.
-    fn passed_by_all(&self) -> u32 {
+    pub fn passed_by_all(&self) -> u32 {
         self.members.iter().map(|m| self.search(m).expect("a live entry").1).sum()
     }
 
     /// The verdict of a table that is sound.
-    fn one_or_two(&self) -> u32 {
+    pub fn one_or_two(&self) -> u32 {
         assert!(self.is_sound(), "a round leaves a table that is not sound");
         1 + self.is_at_two() as u32
     }

@@ -36,7 +36,7 @@ pub fn settle_calls(compare: &mut Compare, random: &mut Random, t: &Piece<u32>) 
 }
 
 /// Several joins by one member, steps and notices, losses that a withdrawal is granted.
-fn churned(random: &mut Random, r: usize) -> Raw {
+pub fn churned(random: &mut Random, r: usize) -> Raw {
     let n = r + 1 + random.below(4);
     let space = Space::any(random, 4 * n);
     let ids = space.rising(random, n);
@@ -66,7 +66,7 @@ fn churned(random: &mut Random, r: usize) -> Raw {
 }
 
 /// A sound table with one thing changed, which may leave it sound.
-fn changed(random: &mut Random, raw: &Raw) -> Raw {
+pub fn changed(random: &mut Random, raw: &Raw) -> Raw {
     let mut raw = raw.clone();
     let (n, r) = (raw.records.len(), raw.r as usize);
     let ids: Vec<u32> = raw.records.iter().map(|m| m.id).collect();
@@ -136,7 +136,14 @@ pub fn full_settling(compare: &mut Compare, random: &mut Random) -> Result {
     calls(compare, random, &t, 2)?;
     let other = changed(random, &raw);
     calls(compare, random, &Piece::whole(other.words()), 1)?;
-    let raw = make::slowest(random, r, 256);
-    compare.settle(&Piece::whole(raw.words()), random.pick(&[255, 256, u32::MAX]))?;
+    let mut raw = make::slowest(random, r, 256);
+    make::count_apart(random, &mut raw);
+    let t = Piece::whole(raw.words());
+    compare.settle(&t, random.pick(&[255, 256, u32::MAX]))?;
+    // As many open minutes, or more.
+    let windows = make::one_minute(random);
+    let open = random.pick(&[255, 256, 300]);
+    let list = make::minutes_of(random, windows.slice(), open, 20);
+    compare.settle_at(&t, &windows, &make::lent_minutes(random, list))?;
     compare.turns(random, true)
 }

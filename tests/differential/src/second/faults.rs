@@ -1,7 +1,5 @@
 //! The faults that can be planted in the second writing, one at a time.
 
-use std::cell::Cell;
-
 macro_rules! faults {
     ($($fault:ident: $name:expr,)*) => {
         #[derive(Clone, Copy, PartialEq, Eq, Debug)]
@@ -290,6 +288,93 @@ faults! {
     SettlePassedSwapped: "settle's verdict and sum exchanged",
     SettlePassedUncounted: "settle says two values, the sum after them",
     RoundPassed: "a round replies what was passed over too",
+    WindowEnd: "a window holds its end",
+    WindowStart: "a window does not hold its start",
+    WindowOverNone: "a window over the week's end holds nothing",
+    WindowOverInside: "a window over the week's end holds what lies from its end to its start",
+    WindowOverFirst: "a window over the week's end holds its part before that alone",
+    WindowOverSecond: "a window over the week's end holds its part after that alone",
+    WindowFirst: "the first window alone looked at",
+    WindowNotLast: "the last window not looked at",
+    WindowSixteenth: "the sixteenth window not looked at",
+    WindowTwice: "a minute that two windows hold is closed",
+    OpenNot: "open and closed exchanged",
+    NextLowest: "next open gives the lowest open minute of the week",
+    NextDown: "next open goes down",
+    NextNoTurn: "next open does not go round",
+    NextAfter: "next open starts after the minute asked for",
+    NextFirst: "next open gives the first window's start",
+    NextStart: "next open gives the next start, where the minute is open too",
+    NextAhead: "next open gives how many minutes ahead it is",
+    NextNone: "next open gives minute 0 for none",
+    NextNoneAsked: "next open gives none with the minute asked for as a second value",
+    NextUncounted: "next open says one value, the minute after it",
+    AskedRemainder: "a minute over 10079 that is asked for taken by its remainder",
+    AskedWeek: "the minute 10080 that is asked for taken as 0",
+    AskedClosed: "a minute over 10079 that is asked for taken as closed",
+    FifteenEqualWhole: "equal ends taken as the whole week",
+    FifteenEqualNone: "equal ends taken as a window that holds nothing",
+    FifteenEnd: "an end of 10080 taken",
+    FifteenStart: "a start of 10080 taken",
+    FifteenLow: "only the low halves of the windows' words judged",
+    FifteenRemainder: "the remainders of the windows' words judged",
+    FifteenMore: "17 windows taken",
+    FifteenMost: "16 windows declined by 15",
+    FifteenNone: "no window declined by 15",
+    FifteenOver: "a window over the week's end declined by 15",
+    FifteenOverlap: "windows that overlap declined by 15",
+    FifteenOrder: "windows whose starts do not rise declined by 15",
+    FifteenOdd: "a start without an end not looked at",
+    FifteenPast: "the word after the windows read as an end",
+    FifteenFirst: "the first window not judged",
+    FifteenLast: "the last window not judged",
+    FifteenUpTo: "no window judged after one that holds the minute",
+    FifteenValue: "15 with the minute asked for as a value",
+    FifteenListed: "15 given where a listed minute is over 10079",
+    FifteenUnlisted: "windows judged only where a minute is listed",
+    FifteenIdeal: "windows judged only where the table is not ideal",
+    FifteenOne: "15 given where 1 applies too",
+    FifteenWrites: "rounds run before 15 is given",
+    SixteenEqual: "equal minutes taken as rising",
+    SixteenLargest: "the minute 4294967295 taken",
+    SixteenLast: "the minute 4294967294 declined by 16",
+    SixteenFirstPair: "first pair of minutes not asked",
+    SixteenLastPair: "last pair of minutes not asked",
+    SixteenPast: "minute after the slice asked",
+    SixteenNone: "an empty list of minutes declined by 16",
+    SixteenOver: "minutes over 10079 declined by 16",
+    SixteenUpTo: "minutes judged only up to where it stops",
+    SixteenClosed: "closed minutes not judged",
+    SixteenWindows: "minutes judged only where there is a window",
+    SixteenFifteen: "16 given where 15 applies too",
+    SixteenOne: "16 given where 1 applies too",
+    SixteenWrites: "rounds run before 16 is given",
+    FourteenFifteen: "14 given where 15 applies too",
+    FourteenSixteen: "14 given where 16 applies too",
+    HoursDay: "the remainder by 1440 taken as the minute of the week",
+    HoursShort: "the remainder by 10079 taken as the minute of the week",
+    HoursLong: "the remainder by 10081 taken as the minute of the week",
+    HoursNoWeek: "listed minutes of later weeks taken as closed",
+    HoursNarrow: "listed minutes taken as 16-bit numbers",
+    HoursSigned: "listed minutes of 2147483648 or more taken as negative",
+    HoursNot: "rounds at the closed minutes and none at the open ones",
+    HoursEvery: "a round at every listed minute",
+    HoursClosed: "a round at one closed minute",
+    HoursMore: "a round after the last listed minute",
+    HoursBreaks: "settle with windows stops at the first closed minute",
+    HoursNotFirst: "no round at the first listed minute",
+    HoursNotLast: "no round at the last listed minute",
+    HoursStretch: "one round at open minutes next to one another",
+    HoursAgain: "no second round at one minute of the week",
+    HoursAfter: "settle with windows gives an ideal table a round",
+    HoursLate: "settle with windows stops one round late",
+    HoursListed: "settle with windows reports the listed minutes as its rounds",
+    HoursClosedCounted: "settle with windows reports closed minutes as rounds too",
+    HoursVerdict: "settle with windows reports the verdict that it began with",
+    HoursPassedEnd: "the sum of settle with windows taken of the table as it ended",
+    HoursPassedUnrun: "the sum of settle with windows 0 where no round is run",
+    HoursSwapped: "rounds and verdict exchanged by settle with windows",
+    HoursUncounted: "settle with windows says two values, the sum after them",
     AlikeR: "alike does not compare r",
     AlikeEmpty: "alike does not compare r where there are no members",
     AlikeCommon: "alike compares as many members as both have",
@@ -362,6 +447,7 @@ faults! {
     HeaderFindings: "the header's step count not judged by findings",
     HeaderRound: "the header's step count not judged by a round",
     HeaderSettle: "the header's step count not judged by settle",
+    HeaderSettleAt: "the header's step count not judged by settle with windows",
     HeaderAlike: "the first header's step count not judged by alike",
     HeaderAlikeSecond: "the second header's step count not judged by alike",
     HeaderImage: "the header's step count not judged by image writing",
@@ -405,24 +491,4 @@ faults! {
     RefusalWrites: "withdrawal refused by 7 leaves the table changed",
     RefusalValue: "a refusal with a value",
     CountPadded: "unused values counted",
-}
-
-thread_local! {
-    static PLANTED: Cell<Fault> = const { Cell::new(Fault::None) };
-}
-
-pub fn plant(fault: Fault) {
-    PLANTED.with(|p| p.set(fault));
-}
-
-pub(super) fn planted(fault: Fault) -> bool {
-    PLANTED.with(|p| p.get()) == fault
-}
-
-/// Without the planted fault.
-pub(super) fn unplanted<T>(call: impl FnOnce() -> T) -> T {
-    let fault = PLANTED.with(|p| p.replace(Fault::None));
-    let given = call();
-    plant(fault);
-    given
 }

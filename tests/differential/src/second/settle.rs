@@ -3,12 +3,12 @@
 //! than there are members; more only a planted fault makes. The faults of the audit are
 //! left to audits: tables are judged here without them.
 
-use super::faults::unplanted;
+use super::plant::unplanted;
 use super::*;
 
 /// More steps and rounds than any table needs.
 const STEPS: usize = 40;
-const ROUNDS: u32 = 600;
+pub(super) const ROUNDS: u32 = 600;
 
 /// The shelves to be notified, and by whom, that a planted fault has kept back.
 type Late = Vec<(u32, u32)>;
@@ -153,7 +153,7 @@ fn spared(table: &[u32], i: usize) -> bool {
         || counts::is_stopped(table, i, Fault::StoppedTurn)
 }
 
-fn run_round(table: &mut [u32]) {
+pub(super) fn run_round(table: &mut [u32]) {
     if planted(Fault::RoundIdealNone) && ideal(table) {
         return;
     }
@@ -187,7 +187,7 @@ fn run_round(table: &mut [u32]) {
 
 /// The number that declines a call, 0 if none does. By the fault `unjudged` it does not look
 /// at the header's step count.
-fn declined(table: &mut [u32], limit: u32, unjudged: Fault) -> u32 {
+pub(super) fn declined(table: &mut [u32], limit: u32, unjudged: Fault) -> u32 {
     if !formed(table, unjudged) {
         let members = table.get(1).copied().unwrap_or(0);
         return if planted(Fault::FourteenFirst) && members > 0 { 14 } else { 1 };
@@ -225,14 +225,14 @@ fn declined(table: &mut [u32], limit: u32, unjudged: Fault) -> u32 {
     14
 }
 
-fn refusal(number: u32) -> Answer {
+pub(super) fn refusal(number: u32) -> Answer {
     let mut said = no(number);
     said.count += (planted(Fault::FourteenValue) && number == 14) as u32;
     said
 }
 
 /// Whether the table is ideal, as settle looks at it.
-fn settled(table: &[u32]) -> bool {
+pub(super) fn settled(table: &[u32]) -> bool {
     let n = size(table);
     let pending = || (0..n).any(|i| table[offset(table, i) + 2] == 1);
     if planted(Fault::SettleFirsts) {
@@ -244,7 +244,7 @@ fn settled(table: &[u32]) -> bool {
     ideal(table) && !(planted(Fault::SettlePending) && pending())
 }
 
-fn verdict_of(table: &[u32]) -> u32 {
+pub(super) fn verdict_of(table: &[u32]) -> u32 {
     judged(table).1
 }
 
