@@ -124,9 +124,9 @@
    1320 for 360, 1799 for 1799 and 8400 for 7560. With no window nothing is open; with {0, 1, 1, 0} every minute is.
    ring_settle_at takes the minutes at which a round may run, counted on in later weeks: of {1290, 1320, 1350, 11400} it runs
    none at the first, which is closed, and one at each of the others, the last a week after the second, until the verdict is
-   2. Or call it each minute, with a list of that one: rounds add up. Where it reports verdict 1, the open minutes were too
-   few. Go on with later ones: after minute t the next that is open is t + 1 + (n + RING_WEEK - m) % RING_WEEK, where m is
-   (t + 1) % RING_WEEK and n what ring_next_open says for m.
+   2. Or call it each minute, with a list of that one: rounds add up, as ring_settle's do. Where it reports verdict 1, the open
+   minutes were too few. Go on with later ones: where there is a window, the next open minute after t is t + 1 +
+   (n + RING_WEEK - m) % RING_WEEK, where m is (t + 1) % RING_WEEK and n what ring_next_open says for m.
 
    Find a shelf that does not stabilize. Two readings of its step count, table[RING_STEPS(r, place)], tell whether it has
    taken a stabilize step in between: if they are equal, none; else as many as they differ by, or more where the second is

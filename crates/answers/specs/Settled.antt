@@ -1,4 +1,4 @@
--- What settle answers: document 02's number and values for each case.
+-- What settle answers, with windows too: document 02's number and values for each case.
 use Prim.Native.Nat.{ℕ}
 use mathlib.Core.Path.{_≡_, refl}
 use mathlib.Core.List.{List, [], _∷_}

@@ -1,4 +1,4 @@
-// What settle answers.
+// What settle answers, with windows too.
 ghost use Rattle.answers.specs.Packed.{Says};
 ghost use Rattle.answers.specs.Settled.{answerOf};
 use crate::Answer;

@@ -11,7 +11,7 @@ use Rattle.model.specs.Windows.{Window, week, inWindow, isOpen, ofWeek}
 use Rattle.model.specs.Refusals.{rightWindow}
 use Rattle.laws.specs.Lists.{In, here, there, in-cons, in-nil, every-in, in-any}
 use Rattle.laws.specs.Order.{less?}
-use Rattle.laws.specs.Windows.{RightWindow, right-window, Held, Shut, before, behind, amid, held-open, shut-closed, held?, not-empty, start-open}
+use Rattle.laws.specs.Windows.{RightWindow, right-window, Within, Shut, before, behind, amid, within-open, shut-closed, within?, not-empty, start-open, OpenAhead}
 use Rattle.hours.specs.Ahead.{aheadOf, lesserOf}
 
 -- One window
@@ -38,11 +38,11 @@ module _ (w : Window) (r : RightWindow w) (m : ℕ) (l : m < week) where
   opens-at t e = rw e (start-open r)
 
   opens : Opens w m (aheadOf m w)
-  opens = go (held? m w)
+  opens = go (within? m w)
     where
-      go : Held m (w .start) (w .end) ⊎ Shut m (w .start) (w .end) → Opens w m (aheadOf m w)
+      go : Within m (w .start) (w .end) ⊎ Shut m (w .start) (w .end) → Opens w m (aheadOf m w)
       go (inl h) =
-          let o = held-open m w h in
+          let o = within-open m w h in
           let e : ofWeek (m + 0) ≡ m = omega arith in
           rw (ahead-held o) (record { is-open = rw e o; none-before = λ j k. absurd (omega arith) })
       go (inr (before a b)) =
@@ -69,10 +69,9 @@ module _ (w : Window) (r : RightWindow w) (m : ℕ) (l : m < week) where
 -- All windows
 
 -- d minutes after m it is open first; a week's minutes where it never is
-pub record FirstAhead (ws : List Window) (m d : ℕ) : Type 0 where
-  pub once-round : d ≤ week
-  pub is-open : d < week → isOpen ws (ofWeek (m + d)) ≡ true
-  pub none-before : (j : ℕ) → j < d → isOpen ws (ofWeek (m + j)) ≡ false
+pub data FirstAhead (ws : List Window) (m d : ℕ) : Type 0 where
+  sometime : d < week → OpenAhead ws m d → FirstAhead ws m d
+  never : d ≡ week → ((j : ℕ) → j < week → isOpen ws (ofWeek (m + j)) ≡ false) → FirstAhead ws m d
 
 -- a, or how far ahead the nearest of the windows is, where that is less
 abbrev pub least : ℕ → List Window → ℕ → ℕ
@@ -117,15 +116,15 @@ none-any f [] h = refl
 none-any f (x ∷ l) h = rw (h x (here refl)) (none-any f l (λ y i. h y (there i)))
 
 pub first-ahead : (ws : List Window) (m : ℕ) → every rightWindow ws ≡ true → m < week → FirstAhead ws m (least week ws m)
-first-ahead ws m r l = record {
-  once-round = least-first m week ws;
-  is-open = λ h. go h (least-some m week ws);
-  none-before = λ j h. none-any (inWindow (ofWeek (m + j))) ws (λ w i. one w i .none-before j (omega (arith, least-each m week ws i)));
-}
+first-ahead ws m r l = go (less? (least week ws m) week) (least-some m week ws)
   where
     one : (w : Window) → In w ws → Opens w m (aheadOf m w)
     one w i = opens w (right-window w (every-in rightWindow r i)) m l
 
-    go : least week ws m < week → (least week ws m ≡ week) ⊎ Some m (least week ws m) ws → isOpen ws (ofWeek (m + least week ws m)) ≡ true
-    go h (inl e) = absurd (omega arith)
-    go h (inr (w, i, e)) = rw e (in-any (inWindow (ofWeek (m + aheadOf m w))) i (one w i .is-open))
+    before-it : (j : ℕ) → j < least week ws m → isOpen ws (ofWeek (m + j)) ≡ false
+    before-it j h = none-any (inWindow (ofWeek (m + j))) ws (λ w i. one w i .none-before j (omega (arith, least-each m week ws i)))
+
+    go : (least week ws m < week) ⊎ (week ≤ least week ws m) → (least week ws m ≡ week) ⊎ Some m (least week ws m) ws → FirstAhead ws m (least week ws m)
+    go (inl h) (inl e) = absurd (omega arith)
+    go (inl h) (inr (w, i, e)) = sometime h (record { is-open = rw e (in-any (inWindow (ofWeek (m + aheadOf m w))) i (one w i .is-open)); none-before = before-it })
+    go (inr h) s = never (omega (arith, least-first m week ws)) (λ j k. before-it j (omega arith))

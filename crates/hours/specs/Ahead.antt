@@ -9,6 +9,7 @@ use Rattle.model.specs.Windows.{Window, week, inWindow}
 unfoldable pub aheadOf : ℕ → Window → ℕ
 aheadOf m w = if inWindow m w then 0 else (if leb m (w .start) then w .start - m else (w .start + week) - m)
 
+-- the lesser of two distances
 abbrev pub lesserOf : ℕ → ℕ → ℕ
 lesserOf a b = if ltb b a then b else a
 

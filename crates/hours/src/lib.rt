@@ -11,6 +11,7 @@ ghost use Rattle.hours.specs.Ahead.{aheadOf, lesserOf, mayAsk};
 use answers::opening::Opening;
 use answers::yes_no::YesNo;
 
+// Both, and either, as functions: so that the loops below ask both sides always, and do not end early.
 fn both(a: bool, b: bool) -> bool
     ensures { λ c. ⌜ c ≡ (a && b) ⌝ }
 {
@@ -23,6 +24,7 @@ fn either(a: bool, b: bool) -> bool
     a || b
 }
 
+// The lesser of two distances.
 fn lesser(a: u32, b: u32) -> u32
     ensures { λ c. ⌜ c ≡ lesserOf a b ⌝ }
 {

@@ -6,14 +6,15 @@ use Prim.Native.Nat.{ℕ, zero, suc, _-_, _≤_, _<_}
 use native.Mathlib.Omega.{arith}
 use lib.ListN.{length}
 use lib.Dec.{ltb, leb}
-use borrow.Author.Tests.{ltb-false, leb-false, not-false}
+use borrow.Author.Tests.{ltb-false, leb-false, lt-leb, not-false}
 use Rattle.model.specs.Lists.{if_then_else_}
 use Rattle.model.specs.Identifier.{between}
 use Rattle.model.specs.Table.{recordSize, size, tableOf, membersIn, wellFormed}
 use Rattle.model.specs.Ring.{live, named, successor, sound}
 use Rattle.model.specs.Answer.{Answer, accepted, declined, Cause, _when_, firstOf, answer, afterwards}
 use Rattle.model.specs.Steps.{without}
-use Rattle.model.specs.Refusals.{full, cutsOff, tooFewPrincipals, joinRefusal, memberRefusal, leaveRefusal, settleRefusal, badWindows, badMinutes, settleAtRefusal}
+use Rattle.model.specs.Windows.{week}
+use Rattle.model.specs.Refusals.{full, cutsOff, tooFewPrincipals, joinRefusal, memberRefusal, leaveRefusal, settleRefusal, badWindows, badMinutes, openRefusal, settleAtRefusal}
 use Rattle.laws.specs.Lists.{or-false}
 
 pub declined-answer : (k : ℕ) (a : Answer) → (k ≡ 0 → ⊥) → declined k ≡ answer k a
@@ -133,3 +134,7 @@ settle-at-accepted ws vs ts h =
     let c = none-applies 15 (badMinutes ts) _ (b .1) in
     let d = none-applies 13 (not (sound (tableOf ws))) 0 (c .1) in
     (settle-accepts ws (not-false _ (a .0)) (not-false _ (d .0)), b .0, c .0)
+
+pub open-accepts : (vs : List ℕ) (m : ℕ) → badWindows vs ≡ false → m < week → openRefusal vs m ≡ 0
+unfolding openRefusal
+open-accepts vs m b h = rw (b, lt-leb week m h)

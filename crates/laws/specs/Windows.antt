@@ -1,25 +1,26 @@
--- Windows of the week: one window, those that words say, a search for the first open minute, and settle with windows as settle whose limit is the open minutes. Assumes nothing.
+-- Windows of the week: one window, those that words say, a search for the first open minute, the two questions; and settle with windows as settle whose limit is
+-- the open minutes. Assumes nothing.
 use mathlib.Core.Path.{_≡_, refl, sym, ap, ap₂, _∙_}
 use mathlib.Core.Logic.{_⊎_, inl, inr}
 use mathlib.Core.Bool.{Bool, true, false, not, _&&_}
 use mathlib.Core.List.{List, [], _∷_}
-use mathlib.Core.Option.{some, none}
+use mathlib.Core.Option.{Option, some, none}
 use Prim.Native.Nat.{ℕ, zero, suc, _+_, _≤_, _<_}
 use native.Mathlib.Omega.{arith}
 use lib.Dec.{ltb, leb, eqb}
 use lib.ListN.{length}
 use borrow.Author.Tests.{ltb-true, leb-true, eqb-false, not-true, not-false, lt-ltb, le-ltb, le-leb, lt-leb}
-use Rattle.model.specs.Lists.{if_then_else_, every, bit}
+use Rattle.model.specs.Lists.{if_then_else_, option, every, bit}
 use Rattle.model.specs.Table.{Table, tableOf}
 use Rattle.model.specs.Ring.{verdict}
 use Rattle.model.specs.Answer.{Answer, accepted, declined, answer, afterwards}
 use Rattle.model.specs.Settle.{afterRound, roundsRun, afterRounds, ranReply}
-use Rattle.model.specs.Windows.{Window, week, windowsIn, paired, inWindow, isOpen, ofWeek, firstOpen, openMinutes, roundsAt}
+use Rattle.model.specs.Windows.{Window, week, windowsIn, paired, inWindow, isOpen, ofWeek, firstOpen, nextOpen, openMinutes, roundsAt}
 use Rattle.model.specs.Refusals.{rightWindow, badWindows, badMinutes, settleAtRefusal}
-use Rattle.model.specs.Calls.{written, settleAnswer, settleWords, settleAtAnswer, settleAtWords}
+use Rattle.model.specs.Calls.{written, isOpenAnswer, nextOpenAnswer, settleAnswer, settleWords, settleAtAnswer, settleAtWords}
 use Rattle.laws.specs.Lists.{and-true}
 use Rattle.laws.specs.Order.{less?}
-use Rattle.laws.specs.Accepted.{settle-at-left, settle-at-accepted}
+use Rattle.laws.specs.Accepted.{open-accepts, settle-at-left, settle-at-accepted}
 
 -- One window
 
@@ -36,10 +37,10 @@ right-window w h =
     record { ends-differ = eqb-false _ _ (not-true _ (b .0)); start-low = ltb-true _ _ (b .1); end-low = ltb-true _ _ (a .1) }
 
 -- the minute is in the window, or it is not: by comparisons
-pub data Held (m s e : ℕ) : Type 0 where
-  inside : s ≤ m → m < e → s ≤ e → Held m s e
-  late : e < s → s ≤ m → Held m s e
-  early : e < s → m < e → Held m s e
+pub data Within (m s e : ℕ) : Type 0 where
+  inside : s ≤ m → m < e → s ≤ e → Within m s e
+  late : e < s → s ≤ m → Within m s e
+  early : e < s → m < e → Within m s e
 
 pub data Shut (m s e : ℕ) : Type 0 where
   before : s ≤ e → m < s → Shut m s e
@@ -47,11 +48,11 @@ pub data Shut (m s e : ℕ) : Type 0 where
   amid : e < s → e ≤ m → m < s → Shut m s e
 
 module _ (m : ℕ) (w : Window) where
-  pub held-open : Held m (w .start) (w .end) → inWindow m w ≡ true
+  pub within-open : Within m (w .start) (w .end) → inWindow m w ≡ true
   unfolding inWindow
-  held-open (inside a b c) = rw (le-ltb (w .end) (w .start) c, le-leb (w .start) m a, lt-ltb m (w .end) b)
-  held-open (late a b) = rw (lt-ltb (w .end) (w .start) a, le-leb (w .start) m b)
-  held-open (early a b) = let d : m < w .start = omega arith in rw (lt-ltb (w .end) (w .start) a, lt-leb (w .start) m d, lt-ltb m (w .end) b)
+  within-open (inside a b c) = rw (le-ltb (w .end) (w .start) c, le-leb (w .start) m a, lt-ltb m (w .end) b)
+  within-open (late a b) = rw (lt-ltb (w .end) (w .start) a, le-leb (w .start) m b)
+  within-open (early a b) = let d : m < w .start = omega arith in rw (lt-ltb (w .end) (w .start) a, lt-leb (w .start) m d, lt-ltb m (w .end) b)
 
   pub shut-closed : Shut m (w .start) (w .end) → inWindow m w ≡ false
   unfolding inWindow
@@ -59,10 +60,10 @@ module _ (m : ℕ) (w : Window) where
   shut-closed (behind a b) = let d : w .start ≤ m = omega arith in rw (le-ltb (w .end) (w .start) a, le-leb (w .start) m d, le-ltb m (w .end) b)
   shut-closed (amid a b c) = rw (lt-ltb (w .end) (w .start) a, lt-leb (w .start) m c, le-ltb m (w .end) b)
 
-  pub held? : Held m (w .start) (w .end) ⊎ Shut m (w .start) (w .end)
-  held? = go (less? (w .end) (w .start)) (less? m (w .start)) (less? m (w .end))
+  pub within? : Within m (w .start) (w .end) ⊎ Shut m (w .start) (w .end)
+  within? = go (less? (w .end) (w .start)) (less? m (w .start)) (less? m (w .end))
     where
-      go : (w .end < w .start) ⊎ (w .start ≤ w .end) → (m < w .start) ⊎ (w .start ≤ m) → (m < w .end) ⊎ (w .end ≤ m) → Held m (w .start) (w .end) ⊎ Shut m (w .start) (w .end)
+      go : (w .end < w .start) ⊎ (w .start ≤ w .end) → (m < w .start) ⊎ (w .start ≤ m) → (m < w .end) ⊎ (w .end ≤ m) → Within m (w .start) (w .end) ⊎ Shut m (w .start) (w .end)
       go (inl a) (inl b) (inl c) = inl (early a c)
       go (inl a) (inl b) (inr c) = inr (amid a c b)
       go (inl a) (inr b) c = inl (late a b)
@@ -80,9 +81,9 @@ module _ {w : Window} (r : RightWindow w) where
       go (inr k) = absurd (r .ends-differ (omega arith))
 
   pub start-open : inWindow (w .start) w ≡ true
-  start-open = held-open (w .start) w (go (less? (w .end) (w .start)))
+  start-open = within-open (w .start) w (go (less? (w .end) (w .start)))
     where
-      go : (w .end < w .start) ⊎ (w .start ≤ w .end) → Held (w .start) (w .start) (w .end)
+      go : (w .end < w .start) ⊎ (w .start ≤ w .end) → Within (w .start) (w .start) (w .end)
       go (inl k) = late k (omega arith)
       go (inr k) = inside (omega arith) (not-empty k) k
 
@@ -103,17 +104,17 @@ right-windows vs b =
 -- Searches
 
 -- i minutes after t it is open, and no minute from t up to then is
-pub record OpenAhead (ws : List Window) (t i : ℕ) : Type 0 where
-  pub is-open : isOpen ws (ofWeek (t + i)) ≡ true
-  pub none-before : (j : ℕ) → j < i → isOpen ws (ofWeek (t + j)) ≡ false
+pub record OpenAhead (hs : List Window) (t i : ℕ) : Type 0 where
+  pub is-open : isOpen hs (ofWeek (t + i)) ≡ true
+  pub none-before : (j : ℕ) → j < i → isOpen hs (ofWeek (t + j)) ≡ false
 
-module _ (ws : List Window) where
+module _ (hs : List Window) where
   -- the same minute, said in another way
-  told-of : (b : Bool) {x y : ℕ} → x ≡ y → isOpen ws (ofWeek x) ≡ b → isOpen ws (ofWeek y) ≡ b
-  told-of b e h = ap (λ (k : ℕ). isOpen ws (ofWeek k)) (sym e) ∙ h
+  told-of : (b : Bool) {x y : ℕ} → x ≡ y → isOpen hs (ofWeek x) ≡ b → isOpen hs (ofWeek y) ≡ b
+  told-of b e h = ap (λ (k : ℕ). isOpen hs (ofWeek k)) (sym e) ∙ h
 
   -- what a search of k minutes finds: the first open minute that is so near, and none where all are closed
-  pub finds : (k t i : ℕ) → i < k → OpenAhead ws t i → firstOpen ws k t ≡ some (ofWeek (t + i))
+  pub finds : (k t i : ℕ) → i < k → OpenAhead hs t i → firstOpen hs k t ≡ some (ofWeek (t + i))
   unfolding firstOpen
   finds zero t i h a = absurd (omega arith)
   finds (suc k) t zero h a =
@@ -128,7 +129,7 @@ module _ (ws : List Window) where
         none-before = λ j l. told-of false {x = t + suc j} (omega arith) (a .none-before (suc j) (omega arith));
       }) ∙ ap (λ (x : ℕ). some (ofWeek x)) e)
 
-  pub finds-none : (k t : ℕ) → ((j : ℕ) → j < k → isOpen ws (ofWeek (t + j)) ≡ false) → firstOpen ws k t ≡ none
+  pub finds-none : (k t : ℕ) → ((j : ℕ) → j < k → isOpen hs (ofWeek (t + j)) ≡ false) → firstOpen hs k t ≡ none
   unfolding firstOpen
   finds-none zero t h = refl
   finds-none (suc k) t h =
@@ -136,30 +137,50 @@ module _ (ws : List Window) where
       rw (told-of false z (h 0 (omega arith))) (finds-none k (suc t) (λ j l. told-of false {x = t + suc j} (omega arith) (h (suc j) (omega arith))))
 
   -- and so it is one of the two
-  pub search-ends : (k t : ℕ) → ((i : ℕ) × (i < k) × OpenAhead ws t i) ⊎ ((j : ℕ) → j < k → isOpen ws (ofWeek (t + j)) ≡ false)
+  pub search-ends : (k t : ℕ) → ((i : ℕ) × (i < k) × OpenAhead hs t i) ⊎ ((j : ℕ) → j < k → isOpen hs (ofWeek (t + j)) ≡ false)
   search-ends zero t = inr (λ j l. absurd (omega arith))
-  search-ends (suc k) t = go (isOpen ws (ofWeek t)) refl (search-ends k (suc t))
+  search-ends (suc k) t = go (isOpen hs (ofWeek t)) refl (search-ends k (suc t))
     where
-      from : {n : ℕ} → isOpen ws (ofWeek t) ≡ false → ((j : ℕ) → j < n → isOpen ws (ofWeek (suc t + j)) ≡ false) → (j : ℕ) → j < suc n → isOpen ws (ofWeek (t + j)) ≡ false
+      from : {n : ℕ} → isOpen hs (ofWeek t) ≡ false → ((j : ℕ) → j < n → isOpen hs (ofWeek (suc t + j)) ≡ false) → (j : ℕ) → j < suc n → isOpen hs (ofWeek (t + j)) ≡ false
       from e h zero l = told-of false {x = t} (omega arith) e
       from e h (suc j) l = told-of false {x = suc t + j} (omega arith) (h j (omega arith))
 
-      go : (b : Bool) → isOpen ws (ofWeek t) ≡ b → ((i : ℕ) × (i < k) × OpenAhead ws (suc t) i) ⊎ ((j : ℕ) → j < k → isOpen ws (ofWeek (suc t + j)) ≡ false)
-          → ((i : ℕ) × (i < suc k) × OpenAhead ws t i) ⊎ ((j : ℕ) → j < suc k → isOpen ws (ofWeek (t + j)) ≡ false)
+      go : (b : Bool) → isOpen hs (ofWeek t) ≡ b → ((i : ℕ) × (i < k) × OpenAhead hs (suc t) i) ⊎ ((j : ℕ) → j < k → isOpen hs (ofWeek (suc t + j)) ≡ false)
+          → ((i : ℕ) × (i < suc k) × OpenAhead hs t i) ⊎ ((j : ℕ) → j < suc k → isOpen hs (ofWeek (t + j)) ≡ false)
       go true e r = inl (0, omega arith, record { is-open = told-of true {x = t} (omega arith) e; none-before = λ j l. absurd (omega arith) })
       go false e (inl (i, l, a)) = inl (suc i, omega arith, record { is-open = told-of true {x = suc t + i} (omega arith) (a .is-open); none-before = from e (a .none-before) })
       go false e (inr h) = inr (from e h)
 
+-- The two questions, of right windows and a minute of the week
+
+module _ (hs : List Window) (m : ℕ) where
+  pub next-found : (i : ℕ) → i < week → OpenAhead hs m i → nextOpen hs m ≡ some (ofWeek (m + i))
+  unfolding nextOpen
+  next-found i h a = finds hs week m i h a
+
+  pub next-none : ((j : ℕ) → j < week → isOpen hs (ofWeek (m + j)) ≡ false) → nextOpen hs m ≡ none
+  unfolding nextOpen
+  next-none h = finds-none hs week m h
+
+module _ (vs : List ℕ) (b : badWindows vs ≡ false) (m : ℕ) (h : m < week) where
+  pub tells-open : (t : Bool) → isOpen (windowsIn vs) m ≡ t → isOpenAnswer vs m ≡ accepted (bit t ∷ [])
+  unfolding isOpenAnswer
+  tells-open t e = rw (open-accepts vs m b h, e)
+
+  pub tells-next : (o : Option ℕ) → nextOpen (windowsIn vs) m ≡ o → nextOpenAnswer vs m ≡ accepted (option o (0 ∷ []) (λ x. 1 ∷ x ∷ []))
+  unfolding nextOpenAnswer
+  tells-next o e = rw (open-accepts vs m b h, e)
+
 -- Rounds: settle with windows runs as many as settle whose limit is the number of open minutes
 
-pub rounds-at : (ws : List Window) (ts : List ℕ) (T : Table) → roundsAt ws ts T ≡ roundsRun (openMinutes ws ts) T
-rounds-at ws [] T = refl
-rounds-at ws (t ∷ ts) T = go (isOpen ws (ofWeek t)) (rounds-at ws ts T) (rounds-at ws ts (afterRound T))
+pub rounds-at : (hs : List Window) (ts : List ℕ) (T : Table) → roundsAt hs ts T ≡ roundsRun (openMinutes hs ts) T
+rounds-at hs [] T = refl
+rounds-at hs (t ∷ ts) T = go (isOpen hs (ofWeek t)) (rounds-at hs ts T) (rounds-at hs ts (afterRound T))
   where
-    go : (b : Bool) → roundsAt ws ts T ≡ roundsRun (openMinutes ws ts) T → roundsAt ws ts (afterRound T) ≡ roundsRun (openMinutes ws ts) (afterRound T)
-        → (if b then (if eqb (verdict T) 2 then 0 else suc (roundsAt ws ts (afterRound T))) else roundsAt ws ts T) ≡ roundsRun (bit b + openMinutes ws ts) T
-    go true e f = let q : 1 + openMinutes ws ts ≡ suc (openMinutes ws ts) = omega arith in rw (q, f)
-    go false e f = let q : 0 + openMinutes ws ts ≡ openMinutes ws ts = omega arith in rw (q, e)
+    go : (b : Bool) → roundsAt hs ts T ≡ roundsRun (openMinutes hs ts) T → roundsAt hs ts (afterRound T) ≡ roundsRun (openMinutes hs ts) (afterRound T)
+        → (if b then (if eqb (verdict T) 2 then 0 else suc (roundsAt hs ts (afterRound T))) else roundsAt hs ts T) ≡ roundsRun (bit b + openMinutes hs ts) T
+    go true e f = let q : 1 + openMinutes hs ts ≡ suc (openMinutes hs ts) = omega arith in rw (q, f)
+    go false e f = let q : 0 + openMinutes hs ts ≡ openMinutes hs ts = omega arith in rw (q, e)
 
 -- so it answers and leaves what that settle does, on every slice, where 15 and 16 do not apply
 pub as-settle : (ws vs ts : List ℕ) → badWindows vs ≡ false → badMinutes ts ≡ false

@@ -18,6 +18,7 @@ pub record Window : Type 0 where
   pub start : ℕ
   pub end : ℕ
 
+-- the window from one minute to another
 abbrev pub window : ℕ → ℕ → Window
 window s e = record { start = s; end = e }
 
@@ -39,7 +40,7 @@ inWindow m w = if ltb (w .end) (w .start) then leb (w .start) m || ltb m (w .end
 
 -- a minute of the week is open if some window holds it
 abbrev pub isOpen : List Window → ℕ → Bool
-isOpen ws m = any (inWindow m) ws
+isOpen hs m = any (inWindow m) hs
 
 -- the minute of the week, of a minute counted from a week's start
 abbrev pub ofWeek : ℕ → ℕ
@@ -47,30 +48,30 @@ ofWeek t = t % week
 
 -- the first open one of the k minutes from t on, as a minute of the week, or none
 unfoldable pub firstOpen : List Window → ℕ → ℕ → Option ℕ
-firstOpen ws zero t = none
-firstOpen ws (suc k) t = if isOpen ws (ofWeek t) then some (ofWeek t) else firstOpen ws k (suc t)
+firstOpen hs zero t = none
+firstOpen hs (suc k) t = if isOpen hs (ofWeek t) then some (ofWeek t) else firstOpen hs k (suc t)
 
 -- the first open minute at or after the minute m of the week, going round once, or none. That one time round is enough is a theorem
 -- (`none-without-windows`: theory, WindowsProof)
 unfoldable pub nextOpen : List Window → ℕ → Option ℕ
-nextOpen ws m = firstOpen ws week m
+nextOpen hs m = firstOpen hs week m
 
 -- how many minutes of a list are open
 abbrev pub openMinutes : List Window → List ℕ → ℕ
-openMinutes ws ts = count (λ t. isOpen ws (ofWeek t)) ts
+openMinutes hs ts = count (λ t. isOpen hs (ofWeek t)) ts
 
 -- how many rounds settle with windows runs: in list order one at each open minute and none at a closed one; the verdict is looked at before
 -- each round, and 2 ends it
 abbrev pub roundsAt : List Window → List ℕ → Table → ℕ
-roundsAt ws [] T = 0
-roundsAt ws (t ∷ ts) T =
-    if isOpen ws (ofWeek t)
-    then (if eqb (verdict T) 2 then 0 else suc (roundsAt ws ts (afterRound T)))
-    else roundsAt ws ts T
+roundsAt hs [] T = 0
+roundsAt hs (t ∷ ts) T =
+    if isOpen hs (ofWeek t)
+    then (if eqb (verdict T) 2 then 0 else suc (roundsAt hs ts (afterRound T)))
+    else roundsAt hs ts T
 
 -- the table after settle with windows, and its reply: that of settle, with these rounds
 abbrev pub afterSettleAt : List Window → List ℕ → Table → Table
-afterSettleAt ws ts T = afterRounds (roundsAt ws ts T) T
+afterSettleAt hs ts T = afterRounds (roundsAt hs ts T) T
 
 abbrev pub settleAtReply : List Window → List ℕ → Table → List ℕ
-settleAtReply ws ts T = ranReply (roundsAt ws ts T) T
+settleAtReply hs ts T = ranReply (roundsAt hs ts T) T

@@ -41,13 +41,13 @@ module _ (ws : List ℕ) where
     unfolding settleAtRefusal
     no-table-at h = (rw h, λ z. omega (arith, z))
 
-    pub no-windows : wellFormed ws ≡ true → badWindows vs ≡ true → Begins (settleAtRefusal ws vs ts) ws (Declined 15)
+    pub bad-windows : wellFormed ws ≡ true → badWindows vs ≡ true → Begins (settleAtRefusal ws vs ts) ws (Declined 15)
     unfolding settleAtRefusal
-    no-windows h b = (rw (h, b), λ z. omega (arith, z))
+    bad-windows h b = (rw (h, b), λ z. omega (arith, z))
 
-    pub no-minutes : wellFormed ws ≡ true → badWindows vs ≡ false → badMinutes ts ≡ true → Begins (settleAtRefusal ws vs ts) ws (Declined 16)
+    pub bad-minutes : wellFormed ws ≡ true → badWindows vs ≡ false → badMinutes ts ≡ true → Begins (settleAtRefusal ws vs ts) ws (Declined 16)
     unfolding settleAtRefusal
-    no-minutes h b m = (rw (h, b, m), λ z. omega (arith, z))
+    bad-minutes h b m = (rw (h, b, m), λ z. omega (arith, z))
 
   -- a call that is declined answers that number, and leaves the words as they were
   pub declines : {k c : ℕ} → Begins k ws (Declined c) → (a : Answer) (new : List ℕ) → (declined c ≡ answer k a) × (ws ≡ afterwards k new ws)
@@ -68,7 +68,7 @@ pub record Settling (all left : Table → ℕ) (ws : List ℕ) (rounds v : ℕ) 
   pub counts : rounds + left (tableOf us) ≡ all (tableOf ws)
   pub rest : afterRounds (left (tableOf us)) (tableOf us) ≡ afterRounds (all (tableOf ws)) (tableOf ws)
 
--- what a settle that runs so many rounds replies and leaves, where its members pass over so many entries as it begins
+-- reply and us are what a settle that runs k rounds from ws replies and leaves
 abbrev pub Ran : ℕ → List ℕ → List ℕ → List ℕ → Type 0
 Ran k ws reply us = (reply ≡ ranReply k (tableOf ws)) × (us ≡ written (afterRounds k (tableOf ws)) ws)
 

@@ -1,4 +1,5 @@
-// Settle: one round, rounds until the table is ideal, and rounds at the open minutes of a list. That the table is well-formed and sound is tested once, before the first round: a round keeps it so.
+// Settle: one round, rounds until the table is ideal, and rounds at the open minutes of a list. That the table is well-formed and sound is tested once, before the
+// first round: a round keeps it so.
 ghost use mathlib.Core.Path.{_≡_};
 ghost use mathlib.Core.Bool.{false};
 ghost use Rattle.model.specs.Table.{tableOf, membersIn};

@@ -30,8 +30,8 @@ pub record SameViews (us vs : List ℕ) : Type 0 where
   pub alike-told : (ws : List ℕ) → (alikeAnswer us ws ≡ alikeAnswer vs ws) × (alikeAnswer ws us ≡ alikeAnswer ws vs)
   pub bytes-told : (bs : List ℕ) → writeAnswer us bs ≡ writeAnswer vs bs
 
--- by a list of calls, rounds and settles nobody can tell two slices apart: it gets the same answers on both, one by one, and leaves two slices of which alike
--- says yes again, and of which the other calls answer the same
+-- by a list of calls, rounds and settles, with windows too, nobody can tell two slices apart: it gets the same answers on both, one by one, and leaves two
+-- slices of which alike says yes again, and of which the other calls answer the same
 pub record NobodyTells (ss : List Service) (us vs : List ℕ) : Type 0 where
   pub same-answers : answers ss us ≡ answers ss vs
   pub yes-again : SaysYes (served ss us) (served ss vs)

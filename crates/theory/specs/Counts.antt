@@ -59,7 +59,7 @@ stepsByCall n (Rectify m q) = 0
 stepsByCall n (Lookup m k) = 0
 stepsByCall n Audit = 0
 
--- by a call, a round or a settle, if it is accepted
+-- by a call, a round or a settle, with windows too, if it is accepted
 abbrev pub stepsBy : ℕ → Table → Service → ℕ
 stepsBy n T (Called c) = stepsByCall n c
 stepsBy n T Round = stepsInRound n T
@@ -77,7 +77,7 @@ module _ {C : Type 0} (next : List ℕ → C → List ℕ) where
   abbrev pub staysMember : ℕ → List C → List ℕ → Bool
   staysMember n cs ws = live (membersIn ws) n && eachMeets next (λ us c. live (membersIn (next us c)) n) cs ws
 
--- the steps of n in a list of the seven calls, and in one with rounds and settles among them; a refused one makes none
+-- the steps of n in a list of the seven calls, and in one with rounds and settles, with windows too, among them; a refused one makes none
 abbrev pub stepsInCalls : ℕ → List Call → List ℕ → ℕ
 stepsInCalls n cs ws = stepsOfAll callWords (λ us c. if accepts us c then stepsByCall n c else 0) cs ws
 

@@ -337,7 +337,7 @@ module _ (n : ℕ) (ws : List ℕ) where
   call-count (Lookup m q) l k = none (Lookup m q) _ refl
   call-count Audit l k = none Audit _ refl
 
-  -- an accepted round and settle: so many rounds of the table
+  -- an accepted round and settle, with windows too: so many rounds of the table
   rounds-count : (j k : ℕ) (steps : ℕ) → (k ≡ 0 → settleRefusal ws ≡ 0) → Seen n steps (tableOf ws) (afterRounds j (tableOf ws))
       → stepsOf (afterwards k (written (afterRounds j (tableOf ws)) ws) ws) n ≡ iterate nextStep (if eqb k 0 then steps else 0) (stepsOf ws n)
   rounds-count j zero steps e a =

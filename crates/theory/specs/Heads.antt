@@ -218,7 +218,7 @@ live-head ws n h = record {
     go zero e = reply-not-again (membersIn ws) (named (membersIn ws) n) (h .first-live) (ap (λ (a : Answer). a .values) e)
     go (suc k) e = omega (arith, ap (λ (a : Answer). a .number) e)
 
--- after every list of calls, rounds and settles by which no member goes: whoever was a member with a live first entry is one still
+-- after every list of calls, rounds and settles, with windows too, by which no member goes: whoever was a member with a live first entry is one still
 pub heads-stay : (ss : List Service) (ws : List ℕ) (n : ℕ) → wellFormed ws ≡ true → live (membersIn ws) n ≡ true
     → live (membersIn ws) (successor (named (membersIn ws) n)) ≡ true → noneGoes ss ws ≡ true → LiveHead (served ss ws) n
 heads-stay ss ws n w l f g = live-head (served ss ws) n

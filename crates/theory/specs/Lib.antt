@@ -1,5 +1,5 @@
--- Theorems about model alone. Claim has demand 3's statement, Demand3 its proof; Bound has settle's bound, BoundProof its proof; Counts and Alike state, CountsProof,
--- AlikeProof and Unlike prove.
+-- Theorems about model alone. Claim has demand 3's statement, Demand3 its proof; Bound has settle's bound, BoundProof its proof; Windows, Counts and Alike state,
+-- WindowsProof, CountsProof, AlikeProof and Unlike prove.
 pub mod Claim
 pub mod Entries
 pub mod Walks

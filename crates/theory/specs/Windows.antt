@@ -46,13 +46,13 @@ SettleAtIsSettle = (ws vs ts : List ℕ) → badWindows vs ≡ false → badMinu
 abbrev pub OnSound : (List ℕ → List ℕ → List ℕ → Type 0) → Type 0
 OnSound P = (ws vs ts : List ℕ) → wellFormed ws ≡ true → sound (tableOf ws) ≡ true → badWindows vs ≡ false → badMinutes ts ≡ false → P ws vs ts
 
--- what a minute of the list is to single rounds: one round where it is open and the verdict is not 2, else none
-abbrev pub roundAt : List Window → List ℕ → ℕ → List ℕ
-roundAt vs us t = if isOpen vs (ofWeek t) && not (eqb (verdict (tableOf us)) 2) then roundWords us else us
+-- the slice after a minute of the list, by single rounds: one round where it is open and the verdict is not 2, else none
+abbrev pub afterMinute : List Window → List ℕ → ℕ → List ℕ
+afterMinute hs us t = if isOpen hs (ofWeek t) && not (eqb (verdict (tableOf us)) 2) then roundWords us else us
 
 -- it leaves what single rounds at the open minutes of the list leave, up to the first at which the verdict is 2: minute by minute
 abbrev pub SettleAtIsRounds : Type 0
-SettleAtIsRounds = OnSound (λ ws vs ts. settleAtWords ws vs ts ≡ afterAll (roundAt (windowsIn vs)) ts ws)
+SettleAtIsRounds = OnSound (λ ws vs ts. settleAtWords ws vs ts ≡ afterAll (afterMinute (windowsIn vs)) ts ws)
 
 -- and by their number, which it reports: before each of them the verdict was another than 2, and where they are fewer than the open minutes it is 2
 abbrev pub SettleAtLeaves : Type 0

@@ -3,12 +3,12 @@ use mathlib.Core.Path.{_≡_, refl, sym, ap, subst, _∙_}
 use mathlib.Core.Logic.{_⊎_, inl, inr}
 use mathlib.Core.Bool.{Bool, true, false, not, _&&_, _||_, true≢false}
 use mathlib.Core.List.{List, [], _∷_}
-use mathlib.Core.Option.{Option, some, none}
+use mathlib.Core.Option.{some, none}
 use Prim.Native.Nat.{ℕ, suc, _+_, _-_, _≤_, _<_}
 use native.Mathlib.Omega.{arith}
 use lib.Dec.{leb, eqb}
 use lib.ListN.{getD}
-use borrow.Author.Tests.{eqb-true, leb-false, lt-leb}
+use borrow.Author.Tests.{eqb-true, leb-false}
 use Rattle.model.specs.Lists.{if_then_else_, option, every, bit}
 use Rattle.model.specs.Table.{Table, tableOf}
 use Rattle.model.specs.Ring.{verdict}
@@ -20,26 +20,11 @@ use Rattle.model.specs.Calls.{roundWords, isOpenAnswer, nextOpenAnswer}
 use Rattle.model.specs.Fold.{afterAll}
 use Rattle.laws.specs.Lists.{and-true, or-false}
 use Rattle.laws.specs.Order.{less?}
-use Rattle.laws.specs.Windows.{right-window, start-open, right-windows, OpenAhead, finds, finds-none, search-ends, as-settle}
-use Rattle.theory.specs.Windows.{FirstOpen, NextIsFirst, NoneWithoutWindows, SettleAtIsSettle, roundAt, SettleAtIsRounds, SettleAtLeaves, SettleAtEnds}
+use Rattle.laws.specs.Windows.{right-window, start-open, right-windows, OpenAhead, next-found, next-none, tells-open, tells-next, search-ends, as-settle}
+use Rattle.theory.specs.Windows.{FirstOpen, NextIsFirst, NoneWithoutWindows, SettleAtIsSettle, afterMinute, SettleAtIsRounds, SettleAtLeaves, SettleAtEnds}
 use Rattle.theory.specs.Bound.{rounds}
 use Rattle.theory.specs.Runs.{Good}
 use Rattle.theory.specs.BoundProof.{round-slice, round-table, settle-rounds, settle-leaves, settle-ends}
-
--- Questions that are not declined
-
-open-accepts : (vs : List ℕ) (m : ℕ) → badWindows vs ≡ false → m < week → openRefusal vs m ≡ 0
-unfolding openRefusal
-open-accepts vs m b h = rw (b, lt-leb week m h)
-
-module _ (vs : List ℕ) (b : badWindows vs ≡ false) where
-  tells-open : (m : ℕ) → m < week → (t : Bool) → isOpen (windowsIn vs) m ≡ t → isOpenAnswer vs m ≡ accepted (bit t ∷ [])
-  unfolding isOpenAnswer
-  tells-open m h t e = rw (open-accepts vs m b h, e)
-
-  tells-next : (m : ℕ) → m < week → (o : Option ℕ) → nextOpen (windowsIn vs) m ≡ o → nextOpenAnswer vs m ≡ accepted (option o (0 ∷ []) (λ x. 1 ∷ x ∷ []))
-  unfolding nextOpenAnswer
-  tells-next m h o e = rw (open-accepts vs m b h, e)
 
 -- an accepted reply says that the windows are right, and the minute one of the week
 asked : (vs : List ℕ) (m v : ℕ) (l : List ℕ) → nextOpenAnswer vs m ≡ accepted (v ∷ l) → (badWindows vs ≡ false) × (m < week)
@@ -72,14 +57,6 @@ some-open ws w e m h closed =
 
 -- The theorems on minutes
 
-next-found : (ws : List Window) (m i : ℕ) → i < week → OpenAhead ws m i → nextOpen ws m ≡ some (ofWeek (m + i))
-unfolding nextOpen
-next-found ws m i h a = finds ws week m i h a
-
-next-none : (ws : List Window) (m : ℕ) → ((j : ℕ) → j < week → isOpen ws (ofWeek (m + j)) ≡ false) → nextOpen ws m ≡ none
-unfolding nextOpen
-next-none ws m h = finds-none ws week m h
-
 pub next-is-first : NextIsFirst
 next-is-first vs m x e = go (search-ends (windowsIn vs) week m)
   where
@@ -88,7 +65,7 @@ next-is-first vs m x e = go (search-ends (windowsIn vs) week m)
 
     go : ((i : ℕ) × (i < week) × OpenAhead (windowsIn vs) m i) ⊎ ((j : ℕ) → j < week → isOpen (windowsIn vs) (ofWeek (m + j)) ≡ false) → FirstOpen vs m x
     go (inl (i, l, o)) =
-        let q : x ≡ ofWeek (m + i) = ap (λ (y : Answer). getD (y .values) 1 0) (sym e ∙ tells-next vs (a .0) m (a .1) _ (next-found (windowsIn vs) m i l o)) in
+        let q : x ≡ ofWeek (m + i) = ap (λ (y : Answer). getD (y .values) 1 0) (sym e ∙ tells-next vs (a .0) m (a .1) (some (ofWeek (m + i))) (next-found (windowsIn vs) m i l o)) in
         record {
           ahead = i;
           within-a-week = l;
@@ -120,26 +97,26 @@ settle-at-leaves ws vs ts wf so b m = let q = as-settle ws vs ts b m in rw (q .0
 pub settle-at-ends : SettleAtEnds
 settle-at-ends ws vs ts wf so b m h = let q = as-settle ws vs ts b m in rw (q .0, q .1) (settle-ends ws wf so (openMinutes (windowsIn vs) ts) h)
 
-module _ (vs : List Window) where
+module _ (hs : List Window) where
   -- once the verdict is 2, no minute changes anything
-  stays : (ts us : List ℕ) → verdict (tableOf us) ≡ 2 → afterAll (roundAt vs) ts us ≡ us
+  stays : (ts us : List ℕ) → verdict (tableOf us) ≡ 2 → afterAll (afterMinute hs) ts us ≡ us
   stays [] us v = refl
-  stays (t ∷ ts) us v = ap (afterAll (roundAt vs) ts) (none-run (isOpen vs (ofWeek t))) ∙ stays ts us v
+  stays (t ∷ ts) us v = ap (afterAll (afterMinute hs) ts) (none-run (isOpen hs (ofWeek t))) ∙ stays ts us v
     where
       none-run : (b : Bool) → (if b && not (eqb (verdict (tableOf us)) 2) then roundWords us else us) ≡ us
       none-run true = rw v
       none-run false = refl
 
-  minutes-are : (ts us : List ℕ) → Good us → rounds (roundsRun (openMinutes vs ts) (tableOf us)) us ≡ afterAll (roundAt vs) ts us
+  minutes-are : (ts us : List ℕ) → Good us → rounds (roundsRun (openMinutes hs ts) (tableOf us)) us ≡ afterAll (afterMinute hs) ts us
   minutes-are [] us g = refl
-  minutes-are (t ∷ ts) us g = go (isOpen vs (ofWeek t)) (eqb (verdict (tableOf us)) 2) refl (minutes-are ts us g) (minutes-are ts (roundWords us) (round-slice us g))
+  minutes-are (t ∷ ts) us g = go (isOpen hs (ofWeek t)) (eqb (verdict (tableOf us)) 2) refl (minutes-are ts us g) (minutes-are ts (roundWords us) (round-slice us g))
     where
-      go : (b v : Bool) → eqb (verdict (tableOf us)) 2 ≡ v → rounds (roundsRun (openMinutes vs ts) (tableOf us)) us ≡ afterAll (roundAt vs) ts us
-          → rounds (roundsRun (openMinutes vs ts) (tableOf (roundWords us))) (roundWords us) ≡ afterAll (roundAt vs) ts (roundWords us)
-          → rounds (roundsRun (bit b + openMinutes vs ts) (tableOf us)) us ≡ afterAll (roundAt vs) ts (if b && not (eqb (verdict (tableOf us)) 2) then roundWords us else us)
-      go false v e here there = let q : 0 + openMinutes vs ts ≡ openMinutes vs ts = omega arith in rw q here
-      go true true e here there = let q : 1 + openMinutes vs ts ≡ suc (openMinutes vs ts) = omega arith in rw (q, e) (sym (stays ts us (eqb-true _ 2 e)))
-      go true false e here there = let q : 1 + openMinutes vs ts ≡ suc (openMinutes vs ts) = omega arith in rw (q, e) (ap (λ (T : Table). rounds (roundsRun (openMinutes vs ts) T) (roundWords us)) (sym (round-table us g)) ∙ there)
+      go : (b v : Bool) → eqb (verdict (tableOf us)) 2 ≡ v → rounds (roundsRun (openMinutes hs ts) (tableOf us)) us ≡ afterAll (afterMinute hs) ts us
+          → rounds (roundsRun (openMinutes hs ts) (tableOf (roundWords us))) (roundWords us) ≡ afterAll (afterMinute hs) ts (roundWords us)
+          → rounds (roundsRun (bit b + openMinutes hs ts) (tableOf us)) us ≡ afterAll (afterMinute hs) ts (if b && not (eqb (verdict (tableOf us)) 2) then roundWords us else us)
+      go false v e here there = let q : 0 + openMinutes hs ts ≡ openMinutes hs ts = omega arith in rw q here
+      go true true e here there = let q : 1 + openMinutes hs ts ≡ suc (openMinutes hs ts) = omega arith in rw (q, e) (sym (stays ts us (eqb-true _ 2 e)))
+      go true false e here there = let q : 1 + openMinutes hs ts ≡ suc (openMinutes hs ts) = omega arith in rw (q, e) (ap (λ (T : Table). rounds (roundsRun (openMinutes hs ts) T) (roundWords us)) (sym (round-table us g)) ∙ there)
 
 pub settle-at-rounds : SettleAtIsRounds
 settle-at-rounds ws vs ts wf so b m =

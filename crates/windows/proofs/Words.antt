@@ -15,8 +15,8 @@ use Rattle.model.specs.Refusals.{rightWindow, badWindows}
 use Rattle.laws.specs.Order.{less?}
 
 -- each word has its partner, and each window is right; that they are not too many is apart
-abbrev pub judged : List ℕ → Bool
-judged vs = paired vs && every rightWindow (windowsIn vs)
+abbrev pub rightWords : List ℕ → Bool
+rightWords vs = paired vs && every rightWindow (windowsIn vs)
 
 pub two : (vs : List ℕ) (i : ℕ) → 1 < length vs - i → drop i vs ≡ getD vs i 0 ∷ getD vs (i + 1) 0 ∷ drop (i + 2) vs
 two vs i h =
@@ -37,9 +37,9 @@ all (s ∷ []) h = absurd (false≢true h)
 all (s ∷ e ∷ vs) h = omega (arith, all vs h)
 
 module _ (vs : List ℕ) where
-  pub few-judged : length vs ≤ 32 → badWindows vs ≡ not (judged vs)
+  pub few-rights : length vs ≤ 32 → badWindows vs ≡ not (rightWords vs)
   unfolding badWindows
-  few-judged h = rw (le-leb (length (windowsIn vs)) 16 (omega (arith, few vs))) (go (paired vs))
+  few-rights h = rw (le-leb (length (windowsIn vs)) 16 (omega (arith, few vs))) (go (paired vs))
     where
       go : (b : Bool) → not (b && true && every rightWindow (windowsIn vs)) ≡ not (b && every rightWindow (windowsIn vs))
       go true = refl
@@ -64,11 +64,11 @@ few-words vs b = go (less? 32 (length vs))
 
 module _ (vs : List ℕ) (i : ℕ) where
   module _ (h : 1 < length vs - i) where
-    pub judged-on : rightWindow (window (getD vs i 0) (getD vs (i + 1) 0)) ≡ true → judged (drop (i + 2) vs) ≡ judged (drop i vs)
-    judged-on r = rw (two vs i h, r)
+    pub rights-on : rightWindow (window (getD vs i 0) (getD vs (i + 1) 0)) ≡ true → rightWords (drop (i + 2) vs) ≡ rightWords (drop i vs)
+    rights-on r = rw (two vs i h, r)
 
-    pub judged-not : rightWindow (window (getD vs i 0) (getD vs (i + 1) 0)) ≡ false → judged (drop i vs) ≡ false
-    judged-not r = rw (two vs i h, r, and-false)
+    pub rights-not : rightWindow (window (getD vs i 0) (getD vs (i + 1) 0)) ≡ false → rightWords (drop i vs) ≡ false
+    rights-not r = rw (two vs i h, r, and-false)
 
     -- one that holds the minute was found, or one of those that are left holds it
     pub found-here : (found : Bool) (m : ℕ) → inWindow m (window (getD vs i 0) (getD vs (i + 1) 0)) ≡ true → true ≡ (found || isOpen (windowsIn (drop i vs)) m)
@@ -78,10 +78,10 @@ module _ (vs : List ℕ) (i : ℕ) where
         → (found || isOpen (windowsIn (drop (i + 2) vs)) m) ≡ (found || isOpen (windowsIn (drop i vs)) m)
     found-on found m e = rw (two vs i h, e)
 
-  pub judged-end : length vs - i ≤ 1 → i ≤ length vs → eqb i (length vs) ≡ judged (drop i vs)
-  judged-end h l = go (drop i vs) (length-drop i vs)
+  pub rights-end : length vs - i ≤ 1 → i ≤ length vs → eqb i (length vs) ≡ rightWords (drop i vs)
+  rights-end h l = go (drop i vs) (length-drop i vs)
     where
-      go : (us : List ℕ) → length us ≡ length vs - i → eqb i (length vs) ≡ judged us
+      go : (us : List ℕ) → length us ≡ length vs - i → eqb i (length vs) ≡ rightWords us
       go [] e = eq-eqb i (length vs) (omega arith)
       go (s ∷ []) e = ne-eqb i (length vs) (λ q. omega arith)
       go (s ∷ t ∷ us) e = absurd (omega arith)

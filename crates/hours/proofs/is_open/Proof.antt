@@ -11,9 +11,10 @@ use Rattle.model.specs.Windows.{windowsIn, isOpen}
 use Rattle.model.specs.Refusals.{rightWindow, badWindows}
 use Rattle.model.specs.Answer.{accepted}
 use Rattle.model.specs.Calls.{isOpenAnswer}
+use Rattle.laws.specs.Windows.{tells-open}
 use Rattle.hours.specs.Ahead.{mayAsk}
 use Rattle.hours.proofs.Pass.{right-on, open-on, right-end, open-end}
-use Rattle.hours.proofs.Replies.{may-not, may, judges, windows-refused, says}
+use Rattle.hours.proofs.Replies.{may-not, may, judges, windows-refused}
 use Rattle.hours.proofs.is_open.Statement.{statement}
 use Rattle.hours.proofs.is_open.Tie as tie
 
@@ -70,7 +71,7 @@ told : (c : tie.Else2 Inv-loop μ-loop) (t : Bool) → let l = c .before .before
 told c t e =
     let l = c .before .before in
     let a = start (l .before .before) .args in
-    says (a .ws .now) (a .m) (may (a .ws .now) (a .m) (asks (l .before)) .0) (judged (c .before) ∙ c .if2 .left) t
+    tells-open (a .ws .now) (judged (c .before) ∙ c .if2 .left) (a .m) (may (a .ws .now) (a .m) (asks (l .before)) .0) t
     (sym (l .loop .inv .2) ∙ open-end (a .ws .now) (l .loop .i) (c .before .loop-test .left) (l .loop .found) (a .m) ∙ e)
 
 returns-3 : tie.Need-returns-3 Inv-loop μ-loop

@@ -83,7 +83,7 @@ returns-3 c =
     let e = c .before in
     let l = e .before .before in
     let a = start (l .before .before) .args in
-    says-never (a .ws .now) (a .m) (may (a .ws .now) (a .m) (asks (l .before)) .0) (judged (e .before) ∙ e .if2 .left) (l .loop .least) (found e) (c .if3 .taken)
+    says-never (a .ws .now) (a .m) (may (a .ws .now) (a .m) (asks (l .before)) .0) (judged (e .before) ∙ e .if2 .left) (l .loop .least) (c .if3 .taken) (found e)
 
 add : tie.Need-add-t17 Inv-loop μ-loop
 add c =
@@ -96,7 +96,7 @@ returns-4 c =
     let e = c .before in
     let l = e .before .before in
     let a = start (l .before .before) .args in
-    says-at (a .ws .now) (a .m) (may (a .ws .now) (a .m) (asks (l .before)) .0) (judged (e .before) ∙ e .if2 .left) (l .loop .least) (found e) (c .if3 .left)
+    says-at (a .ws .now) (a .m) (may (a .ws .now) (a .m) (asks (l .before)) .0) (judged (e .before) ∙ e .if2 .left) (l .loop .least) (c .if3 .left) (found e)
 
 pub next-open-spec : {M : Type 1} → statement M
 next-open-spec =

@@ -7,7 +7,7 @@ use Rattle.model.specs.Table.{wellFormed}
 use Rattle.model.specs.Refusals.{badWindows, badMinutes}
 use Rattle.laws.specs.Accepted.{settle-at-left}
 use Rattle.table.proofs.WellFormed.{formed-words}
-use Rattle.settle.proofs.Laws.{no-table-at, no-windows, no-minutes}
+use Rattle.settle.proofs.Laws.{no-table-at, bad-windows, bad-minutes}
 use Rattle.settle.proofs.begun_at.Statement.{statement}
 use Rattle.settle.proofs.begun_at.Tie as tie
 
@@ -27,10 +27,10 @@ returns : tie.Need-returns
 returns c = no-table-at _ _ _ (sym (c .before .well-formed .ensures) ∙ not-true _ (c .if1 .taken))
 
 returns-2 : tie.Need-returns-2
-returns-2 c = no-windows _ _ _ (formed (c .before .before)) (not-false _ (sym (c .before .are-windows .ensures) ∙ not-true _ (c .if2 .taken)))
+returns-2 c = bad-windows _ _ _ (formed (c .before .before)) (not-false _ (sym (c .before .are-windows .ensures) ∙ not-true _ (c .if2 .taken)))
 
 returns-3 : tie.Need-returns-3
-returns-3 c = let w = c .before .before in no-minutes _ _ _ (formed (w .before .before)) (right-windows w) (not-false _ (sym (c .before .are-minutes .ensures) ∙ not-true _ (c .if3 .taken)))
+returns-3 c = let w = c .before .before in bad-minutes _ _ _ (formed (w .before .before)) (right-windows w) (not-false _ (sym (c .before .are-minutes .ensures) ∙ not-true _ (c .if3 .taken)))
 
 begun-formed-requires : tie.Need-begun-formed-requires
 begun-formed-requires c κs = formed-words _ (formed (c .before .before .before .before))
