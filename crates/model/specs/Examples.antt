@@ -15,7 +15,7 @@ use Rattle.model.specs.Alike.{alikeMember, alike}
 use Rattle.model.specs.Image.{imageOf, isImage}
 use Rattle.model.specs.Held.{runsOf}
 use Rattle.model.specs.Settle.{delivered, lastStep, finished, afterTurn, afterRound, afterRounds, roundsRun, roundReply, settleReply}
-use Rattle.model.specs.Windows.{windowsIn, inWindow, firstOpen, nextOpen, openMinutes, settleAtReply}
+use Rattle.model.specs.Windows.{windowsIn, inWindow, firstOpen, nextOpen, openMinutes, roundsAt, settleAtReply}
 use Rattle.model.specs.Refusals.{full, newRefusal, noNewTable, joinRefusal, memberRefusal, leaveRefusal, cutsOff, tooFewPrincipals, heldRefusal, settleRefusal, alikeRefusal, rightWindow, badWindows, badMinutes, openRefusal, settleAtRefusal}
 use Rattle.model.specs.Calls.{joinAnswer, joinWords, stabilizeAnswer, stabilizeWords, failAnswer, failWords, newAnswer, newWords, leaveAnswer, leaveWords, heldAnswer, principalAnswer, alikeAnswer, roundAnswer, roundWords, settleAnswer, settleWords, isOpenAnswer, nextOpenAnswer, settleAtAnswer, settleAtWords}
 use Rattle.model.specs.Fold.{eachTells}
@@ -407,9 +407,8 @@ windowCases =
     (opens nights (9999 ∷ 10000 ∷ 10079 ∷ 0 ∷ 59 ∷ 60 ∷ []) gives 0 ∷ 1 ∷ 1 ∷ 1 ∷ 1 ∷ 0 ∷ []) ∷
     -- the next open minute of an open one is itself, of a closed one the next start
     (nextOpenAnswer nights 130 .values ++ nextOpenAnswer nights 60 .values gives 1 ∷ 130 ∷ 1 ∷ 100 ∷ []) ∷
-    -- it may be round the end, and as far as 10079 minutes away; windows that overlap or follow one another are no matter
-    (nextOpenAnswer (20 ∷ 30 ∷ []) 10070 .values ++ nextOpenAnswer (5 ∷ 6 ∷ []) 6 .values ++ nextOpenAnswer (50 ∷ 70 ∷ 40 ∷ 60 ∷ 70 ∷ 80 ∷ []) 30 .values
-    gives 1 ∷ 20 ∷ 1 ∷ 5 ∷ 1 ∷ 40 ∷ []) ∷
+    -- it may be round the end; windows that overlap or follow one another are no matter
+    (nextOpenAnswer (20 ∷ 30 ∷ []) 10070 .values ++ nextOpenAnswer (50 ∷ 70 ∷ 40 ∷ 60 ∷ 70 ∷ 80 ∷ []) 30 .values gives 1 ∷ 20 ∷ 1 ∷ 40 ∷ []) ∷
     -- there is none without windows
     (opens [] (0 ∷ 10079 ∷ []) ++ nextOpenAnswer [] 7 .values gives 0 ∷ 0 ∷ 0 ∷ []) ∷
     -- 15: equal ends, a minute over 10079 as start, as end or asked, a word without a partner, 17 windows; 16 of them are right
@@ -420,16 +419,15 @@ pub windows : map (λ c. c .computed) windowCases ≡ map (λ c. c .expected) wi
 unfolding isOpenAnswer nextOpenAnswer openRefusal badWindows rightWindow inWindow nextOpen firstOpen
 windows = refl
 
--- settle with windows: rounds run, verdict, entries passed over. joined25, of Req 05, takes three rounds
+-- settle with windows: its rounds, or its reply: rounds run, verdict, entries passed over. Of Req 05's tables joined25 takes three rounds, waiting15 one
 abbrev pub settleAtCases : List Case
 settleAtCases =
     -- a round at each open minute and none at a closed one; 10080 is minute 0 of the next week
-    (settleAtReply (windowsIn nights) (99 ∷ 100 ∷ 160 ∷ []) joined25 ++ settleAtReply (windowsIn nights) (100 ∷ 10080 ∷ []) joined25 gives 1 ∷ 1 ∷ 0 ∷ 2 ∷ 1 ∷ 0 ∷ []) ∷
-    -- it stops where the verdict is 2
-    (settleAtReply (windowsIn nights) (100 ∷ 101 ∷ 102 ∷ 103 ∷ 104 ∷ []) joined25 ++ settleAtReply (windowsIn nights) (100 ∷ []) (ring4 10 40) gives 3 ∷ 2 ∷ 0 ∷ 0 ∷ 2 ∷ 0 ∷ []) ∷
-    -- no minute; closed minutes, the second of them open if the remainder by 1440 decided; the sum is of the table as it began
-    (settleAtReply (windowsIn nights) [] joined25 ++ settleAtReply (windowsIn nights) (60 ∷ 1540 ∷ []) joined25 ++ settleAtReply (windowsIn nights) (100 ∷ []) waiting15
-    gives 0 ∷ 1 ∷ 0 ∷ 0 ∷ 1 ∷ 0 ∷ 1 ∷ 2 ∷ 1 ∷ []) ∷
+    (roundsAt (windowsIn nights) (99 ∷ 100 ∷ 160 ∷ 10080 ∷ []) joined25 ∷ [] gives 2 ∷ []) ∷
+    -- it stops where the verdict is 2; the sum is of the table as it began
+    (settleAtReply (windowsIn nights) (100 ∷ 101 ∷ 102 ∷ []) waiting15 ++ settleAtReply (windowsIn nights) (100 ∷ []) (ring4 10 40) gives 1 ∷ 2 ∷ 1 ∷ 0 ∷ 2 ∷ 0 ∷ []) ∷
+    -- no minute; closed minutes, the second of them open if the remainder by 1440 decided
+    (settleAtReply (windowsIn nights) [] waiting15 ++ roundsAt (windowsIn nights) (60 ∷ 1540 ∷ []) waiting15 ∷ [] gives 0 ∷ 1 ∷ 1 ∷ 0 ∷ []) ∷
     -- open minutes of a list
     (openMinutes (windowsIn nights) (60 ∷ 100 ∷ 10180 ∷ 10240 ∷ []) ∷ [] gives 2 ∷ []) ∷ []
 
