@@ -1,4 +1,6 @@
 // Alike: two tables that are equal but for their step counts.
+#![tactic(auto)]
+
 ghost use Rattle.std.specs.Prelude.{◌≡◌, ◌*◌, ◌≤◌, length, take};
 ghost use Rattle.model.specs.Lists.{same, same_by};
 ghost use Rattle.model.specs.Table.{record_size, member_of, members_of, table_of};

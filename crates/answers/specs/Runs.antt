@@ -1,7 +1,7 @@
 -- What held answers: document 02's number and values for each case, and the answer in numbers, in which nothing is lost.
 use Rattle.std.specs.Prelude.{ℕ, ◌*◌, ◌/◌, ◌≡◌, refl, List, [], ◌∷◌, length, get_or, take}
 use Rattle.model.specs.Answer.{Answer, accepted, declined}
-use Rattle.model.specs.Held.{bounds, ◌upTo◌}
+use Rattle.model.specs.Held.{bounds, ◌up_to◌}
 use Rattle.answers.specs.ReadBack.{OneToOne, read_back_one_to_one}
 use Rattle.answers.specs.declared.runs.Runs.{Runs}
 use Rattle.answers.specs.declared.runs.Runs.TheVariants.{One, Two, Declined}

@@ -5,7 +5,7 @@ ghost use Rattle.answers.specs.ByteCount.{answer_of};
 use crate::Answer;
 
 // The bytes written, or the number that declines the call.
-#[derive(Drop)]
+#[derive(Clone, Copy)]
 pub enum ByteCount {
     // the bytes written
     Bytes(u32),

@@ -5,7 +5,7 @@ ghost use Rattle.answers.specs.Field.{answer_of};
 use crate::Answer;
 
 // The field at a position, or the number that declines it.
-#[derive(Drop)]
+#[derive(Clone, Copy)]
 pub enum Field {
     // tag, start and length of its contents, next position
     At(u32, u32, u32, u32),

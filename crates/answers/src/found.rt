@@ -5,7 +5,7 @@ ghost use Rattle.answers.specs.Found.{answer_of};
 use crate::Answer;
 
 // The owner of the key, or why none was found.
-#[derive(Drop)]
+#[derive(Clone, Copy)]
 pub enum Found {
     // the owner, the member it was found at, the moves, and the entries passed over
     Owner(u32, u32, u32, u32),

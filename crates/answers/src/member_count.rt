@@ -5,7 +5,7 @@ ghost use Rattle.answers.specs.MemberCount.{answer_of};
 use crate::Answer;
 
 // The member count, or the number that declines the call.
-#[derive(Drop)]
+#[derive(Clone, Copy)]
 pub enum MemberCount {
     // the member count afterwards
     Members(u32),

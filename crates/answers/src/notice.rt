@@ -5,7 +5,7 @@ ghost use Rattle.answers.specs.Notice.{answer_of};
 use crate::Answer;
 
 // What became of the notice, or the number that declines it.
-#[derive(Drop)]
+#[derive(Clone, Copy)]
 pub enum Notice {
     // it was written
     New,

@@ -5,7 +5,7 @@ ghost use Rattle.answers.specs.Opening.{answer_of};
 use crate::Answer;
 
 // The next open minute of the week, that there is none, or the number that declines the question.
-#[derive(Drop)]
+#[derive(Clone, Copy)]
 pub enum Opening {
     // the minute
     At(u32),

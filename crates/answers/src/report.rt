@@ -5,7 +5,7 @@ ghost use Rattle.answers.specs.Report.{answer_of};
 use crate::Answer;
 
 // The audit, or the number that declines it.
-#[derive(Drop)]
+#[derive(Clone, Copy)]
 pub enum Report {
     // members, principals, ring members, verdict
     Audited(u32, u32, u32, u32),

@@ -5,7 +5,7 @@ ghost use Rattle.answers.specs.RoundVerdict.{answer_of};
 use crate::Answer;
 
 // The verdict on the table, or the number that declines the call.
-#[derive(Drop)]
+#[derive(Clone, Copy)]
 pub enum RoundVerdict {
     // the verdict afterwards
     Is(u32),

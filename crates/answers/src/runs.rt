@@ -3,14 +3,14 @@ ghost use Rattle.std.specs.Prelude.{◌≡◌};
 ghost use Rattle.answers.specs.Runs.{answer_of, packed};
 
 // A run of positions in a list of keys: its first, and the one after its last.
-#[derive(Drop)]
+#[derive(Clone, Copy)]
 pub struct Run {
     pub start: usize,
     pub end: usize,
 }
 
 // The runs of a member, or the number that declines the call.
-#[derive(Drop)]
+#[derive(Clone, Copy)]
 pub enum Runs {
     // of any member but the lowest
     One(Run),
@@ -21,7 +21,7 @@ pub enum Runs {
 
 // The answer in numbers, as it crosses to C: number 0 or the refusal, how many runs, their starts and their ends; unused ones 0.
 #[repr(C)]
-#[derive(Drop)]
+#[derive(Clone, Copy)]
 pub struct RunsAnswer {
     pub number: u32,
     pub runs: u32,

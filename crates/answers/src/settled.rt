@@ -5,7 +5,7 @@ ghost use Rattle.answers.specs.Settled.{answer_of};
 use crate::Answer;
 
 // The rounds run, the verdict and the entries passed over, or the number that declines the call.
-#[derive(Drop)]
+#[derive(Clone, Copy)]
 pub enum Settled {
     // rounds run, the verdict afterwards, and the entries that all members of the table passed over as it began
     Ran(u32, u32, u32),

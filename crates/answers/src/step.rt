@@ -5,7 +5,7 @@ ghost use Rattle.answers.specs.Step.{answer_of};
 use crate::Answer;
 
 // What the step did, or the number that declines it.
-#[derive(Drop)]
+#[derive(Clone, Copy)]
 pub enum Step {
     // a dead head was dropped
     Again,

@@ -5,7 +5,7 @@ ghost use Rattle.answers.specs.Tested.{answer_of};
 use crate::Answer;
 
 // Principal or not, with the pairs taken; or the number that declines the test.
-#[derive(Drop)]
+#[derive(Clone, Copy)]
 pub enum Tested {
     // no pair skips the member: all were taken
     Principal(u32),

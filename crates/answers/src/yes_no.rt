@@ -5,7 +5,7 @@ ghost use Rattle.answers.specs.YesNo.{answer_of};
 use crate::Answer;
 
 // Yes, no, or the number that declines the question.
-#[derive(Drop)]
+#[derive(Clone, Copy)]
 pub enum YesNo {
     Yes,
     No,

@@ -1,4 +1,6 @@
 // Audit: members, principals, ring members, and the verdict.
+#![tactic(auto)]
+
 ghost use Rattle.std.specs.Prelude.{◌≡◌};
 ghost use Rattle.model.specs.Table.{table_of};
 ghost use Rattle.model.specs.Answer.{accepted};

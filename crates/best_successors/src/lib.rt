@@ -1,4 +1,6 @@
 // Best successors, by places in the table: the moves round the ring go by them. For the crates above; each function asks for a well-formed table.
+#![tactic(auto)]
+
 ghost use Rattle.std.specs.Prelude.{◌≡◌, ◌<◌, ◌≤◌, length, get_or};
 ghost use Rattle.model.specs.Lists.{every};
 ghost use Rattle.model.specs.Table.{members_in, ids};
@@ -7,7 +9,7 @@ ghost use Rattle.table.specs.FormedWords.{FormedWords};
 ghost use Rattle.best_successors.specs.Places.{place_of, first_place, next_place, BestPlaces};
 
 // What the search of a list for its first live entry tells.
-#[derive(Drop)]
+#[derive(Clone, Copy)]
 pub struct Best {
     // the place of that entry, or the member count where none is live
     pub place: usize,

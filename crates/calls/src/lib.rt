@@ -1,5 +1,7 @@
 // The seven calls as one type, one function over them, and one over a list of them, with demand 3 in its contract.
 // The borrow checker covers no slice of enums: `apply_all` is proved by hand, and leaves all else to `apply`.
+#![tactic(auto)]
+
 ghost use Rattle.std.specs.Prelude.{◌≡◌, map};
 ghost use Rattle.model.specs.Run.{call_answer, call_words, run};
 ghost use Rattle.theory.specs.Claim.{Holds};
@@ -9,7 +11,7 @@ ghost use Rattle.calls.specs.Calls.{call_of, MayStart};
 use answers::Answer;
 
 // A call of a member: withdrawal is Leave, loss is Fail, find is Lookup.
-#[derive(Drop)]
+#[derive(Clone, Copy)]
 pub enum Call {
     Join(u32, u32),
     Leave(u32),

@@ -1,4 +1,6 @@
 // The library for C: thin exports over the proved calls. include/ring.h declares them.
+#![tactic(auto)]
+
 ghost use Rattle.std.specs.Prelude.{◌≡◌};
 ghost use Rattle.model.specs.Calls.{join_answer, join_words, stabilize_answer, stabilize_words, rectify_answer, rectify_words, fail_answer, fail_words, leave_answer, leave_words, lookup_answer, audit_answer, new_answer, new_words, alike_answer, write_answer, write_bytes, read_answer, read_words, findings_answer, findings_after, held_answer, principal_answer, round_answer, round_words, settle_answer, settle_words, is_open_answer, next_open_answer, settle_at_answer, settle_at_words};
 ghost use Rattle.model.specs.Image.{field_at};

@@ -1,4 +1,6 @@
 // Loss and withdrawal: a member's record goes.
+#![tactic(auto)]
+
 ghost use Rattle.std.specs.Prelude.{◌≡◌, [], ◌∷◌, ◌+◌, ◌*◌, ◌<◌, length, get_or, take};
 ghost use Rattle.model.specs.Table.{header_size, record_size, size, table_of, members_in, ids};
 ghost use Rattle.model.specs.Steps.{without};

@@ -1,4 +1,6 @@
 // The field at a position of an image: which one is due there, and whether it stands.
+#![tactic(auto)]
+
 ghost use Rattle.std.specs.Prelude.{◌≡◌, ◌≤◌};
 ghost use Rattle.model.specs.Image.{field_at, field_reply};
 ghost use Rattle.answers.specs.Field.{answer_of};

@@ -1,4 +1,6 @@
 // Entries of a record copied in blocks. For `new_member`; a caller of the library uses none of this.
+#![tactic(auto)]
+
 ghost use Rattle.std.specs.Prelude.{◌≡◌, ◌≤◌, length, take};
 ghost use Rattle.model.specs.Lists.{overlay};
 

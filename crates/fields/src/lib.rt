@@ -1,4 +1,6 @@
 // The fields of an image: their sizes and heads, the first field, and one member's. For `image_test`, `image` and `due`; a caller of the library uses none of this.
+#![tactic(auto)]
+
 ghost use Rattle.std.specs.Prelude.{◌≡◌, ◌∷◌, ℕ, ◌+◌, ◌≤◌, ◌<◌, length, drop};
 ghost use Rattle.model.specs.Table.{record_size, member_of, record_of};
 ghost use Rattle.model.specs.Image.{bytes_of, member_field, field_head, member_length, field_member, image_r, image_count};

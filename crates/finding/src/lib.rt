@@ -1,4 +1,6 @@
 // One finding of the audit, and what all findings of a table need, each number computed once. For the crate `findings`.
+#![tactic(auto)]
+
 ghost use Rattle.std.specs.Prelude.{◌≡◌, ◌<◌, get_or};
 ghost use Rattle.model.specs.Table.{members_in, table_of, ids};
 ghost use Rattle.model.specs.Ring.{moves_to_ring};
@@ -15,7 +17,7 @@ use answers::report::Report;
 
 // One member's finding: identifier, 1 for a principal and else 0, moves to the ring (0 on it; the member count if the walk never comes there).
 #[repr(C)]
-#[derive(Drop)]
+#[derive(Clone, Copy)]
 pub struct Finding {
     pub id: u32,
     pub principal: u32,
@@ -23,7 +25,7 @@ pub struct Finding {
 }
 
 // What is computed of a table before its findings are written.
-#[derive(Drop)]
+#[derive(Clone, Copy)]
 pub struct Survey {
     // what the call answers
     pub reply: Report,

@@ -1,4 +1,6 @@
 // Findings: the audit that also fills a lent list of records, one a member.
+#![tactic(auto)]
+
 ghost use Rattle.std.specs.Prelude.{◌≡◌, ◌≤◌, length};
 ghost use Rattle.model.specs.Table.{members_in};
 ghost use Rattle.model.specs.Calls.{findings_answer, findings_after};

@@ -1,4 +1,6 @@
 // The objects a shelf holds: the runs of a rising list of keys that belong to one member.
+#![tactic(auto)]
+
 ghost use Rattle.std.specs.Prelude.{◌≡◌, true, ◌<◌, get_or};
 ghost use Rattle.model.specs.Lists.{rising};
 ghost use Rattle.model.specs.Table.{members_in, ids};

@@ -1,5 +1,7 @@
 // Service hours: whether a minute of the week is open, and the first open minute at or after it, going round. Each goes over the windows once, judges them on the
 // way and does not end early, so that several windows are looked at together.
+#![tactic(auto)]
+
 ghost use Rattle.std.specs.Prelude.{◌≡◌, ◌&&◌, ◌||◌, ◌<◌};
 ghost use Rattle.model.specs.Windows.{window, week};
 ghost use Rattle.model.specs.Calls.{is_open_answer, next_open_answer};

@@ -1,5 +1,7 @@
 // Is a well-formed table ideal: each list the next r members up, in order, each predecessor the next member down, round the end. For `verdict`; a caller
 // of the library uses none of this.
+#![tactic(auto)]
+
 ghost use Rattle.std.specs.Prelude.{◌≡◌, ◌*◌, ◌≤◌, ◌<◌, length, get_or};
 ghost use Rattle.model.specs.Lists.{same};
 ghost use Rattle.model.specs.Table.{record_size, members_of, members_in, table_of, ids};

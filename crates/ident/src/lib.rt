@@ -1,4 +1,6 @@
 // Identifiers: the order round the ring, and the identifier after another.
+#![tactic(auto)]
+
 ghost use Rattle.std.specs.Prelude.{◌≡◌};
 ghost use Rattle.model.specs.Identifier.{between as betweenOf, after as after_of};
 ghost use Rattle.model.specs.Table.{word_limit};

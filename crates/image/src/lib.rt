@@ -1,4 +1,6 @@
 // Saving and reading back: the image of a table, written and read.
+#![tactic(auto)]
+
 ghost use Rattle.std.specs.Prelude.{◌≡◌, ◌+◌, ◌*◌, ◌≤◌, length, get_or};
 ghost use Rattle.model.specs.Table.{header_size, record_size, members_of, records_of, table_of, words_of};
 ghost use Rattle.model.specs.Image.{member_fields, image_of, field_members, image_count, image_r, table_in};

@@ -1,4 +1,6 @@
 // The test of an image: are bytes the writing of a well-formed table? For `image`; no byte past the end is read.
+#![tactic(auto)]
+
 ghost use Rattle.std.specs.Prelude.{◌≡◌, ◌+◌, ◌*◌, ◌≤◌, length};
 ghost use Rattle.model.specs.Image.{field_head, is_image};
 ghost use Rattle.laws.specs.Bytes.{field_size};

@@ -1,4 +1,6 @@
 // Join: a shelf becomes a member by another.
+#![tactic(auto)]
+
 ghost use Rattle.std.specs.Prelude.{◌≡◌, [], ◌∷◌, length, get_or};
 ghost use Rattle.model.specs.Table.{members_in, table_of};
 ghost use Rattle.model.specs.Answer.{accepted};
@@ -16,7 +18,7 @@ use member::Member;
 use table::Located;
 
 // Whether a shelf may join.
-#[derive(Drop)]
+#[derive(Clone, Copy)]
 enum Admission {
     // the place where it is missing, and the place of the member that it joins by
     May(usize, usize),

@@ -162,8 +162,11 @@ count_le f g [] h = omega arith
 count_le f g (x ∷ l) h = omega (arith, count_le f g l (λ y m. h y (there m)), bit_le (f x) (g x) (h x (here refl)))
 
 pub count_lt : (f g : ℕ → Bool) {l : List ℕ} → ((x : ℕ) → In x l → f x ≡ true → g x ≡ true) → {z : ℕ} → In z l → f z ≡ false → g z ≡ true → count f l < count g l
-count_lt f g h {z} (here {y} {l} e) p q = rw (← e, p, q) (omega (arith, count_le f g l (λ y m. h y (there m))))
-count_lt f g h {z} (there {y} {l} m) p q = omega (arith, count_lt f g (λ x i. h x (there i)) m p q, bit_le (f y) (g y) (h y (here refl)))
+count_lt f g {l} h {z} i = go i h
+  where
+    go : {l : List ℕ} → In z l → ((x : ℕ) → In x l → f x ≡ true → g x ≡ true) → f z ≡ false → g z ≡ true → count f l < count g l
+    go (here {y} {l} e) h p q = rw (← e, p, q) (omega (arith, count_le f g l (λ y m. h y (there m))))
+    go (there {y} {l} m) h p q = omega (arith, go m (λ x i. h x (there i)) p q, bit_le (f y) (g y) (h y (here refl)))
 
 -- where no element stands twice, one element less costs at most one
 pub count_but_one : (n : ℕ) (f g : ℕ → Bool) (l : List ℕ) → NoDup l → ((x : ℕ) → (x ≡ n → ⊥) → f x ≡ true → g x ≡ true) → count f l ≤ suc (count g l)

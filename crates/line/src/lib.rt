@@ -1,4 +1,6 @@
 // Reading a line of a session: its word and its numbers.
+#![tactic(auto)]
+
 ghost use Rattle.std.specs.Prelude.{◌≡◌, [], ◌∷◌, ◌++◌, ◌≤◌, length, take};
 ghost use Rattle.script.specs.Lines.{takes as takesOf, numbers_of, meaning};
 ghost use Rattle.line.specs.Reading.{following, firsts, some_firsts, given, Within, asked_of, viewed, InLine, cut};
@@ -7,14 +9,14 @@ use part::{MaybeWord, Number};
 use script::Word;
 
 // How many numbers were kept, or one of the parts is no number.
-#[derive(Drop)]
+#[derive(Clone, Copy)]
 pub enum Numbers {
     Kept(usize),
     Wrong,
 }
 
 // What a line asks: a word with so many numbers kept.
-#[derive(Drop)]
+#[derive(Clone, Copy)]
 pub enum Line {
     Asks(Word, usize),
     Bad,

@@ -1,4 +1,6 @@
 // Find: the walk to the owner of a key.
+#![tactic(auto)]
+
 ghost use Rattle.std.specs.Prelude.{◌≡◌, ◌<◌, get_or};
 ghost use Rattle.model.specs.Table.{members_in, ids};
 ghost use Rattle.model.specs.Steps.{lookup as lookupOf};

@@ -1,11 +1,13 @@
 // One member's record, and the steps that take it by value and hand the new record back.
+#![tactic(auto)]
+
 ghost use Rattle.std.specs.Prelude.{◌≡◌, ℕ, ◌≤◌, take};
 ghost use Rattle.model.specs.Table.{word_limit};
 ghost use Rattle.model.specs.Steps.{drop_head, adopt as adoptOf, await_candidate, clear_pending, count_step, rectify as rectifyOf, renews as renewsOf};
 ghost use Rattle.member.specs.View.{view};
 
 // Of the 8 entries a table uses the first r, the successor list; the others never matter.
-#[derive(Drop)]
+#[derive(Clone, Copy)]
 pub struct Member {
     pub id: u32,
     pub predecessor: u32,

@@ -26,8 +26,8 @@ pub record Run : Type 0 where
   pub start : ℕ
   pub end : ℕ
 
-infix 6 ◌upTo◌
-abbrev pub ◌upTo◌ : ℕ → ℕ → Run
+infix 6 ◌up_to◌
+abbrev pub ◌up_to◌ : ℕ → ℕ → Run
 s up_to e = record { start = s; end = e }
 
 -- the runs of the member n: one, from the keys at or below the member before it to those at or below n;

@@ -1,5 +1,7 @@
 // Moves to the ring, by places in the table: each is found once, on one walk for each way. For the crates above; each function asks for a
 // well-formed table and its best successors.
+#![tactic(auto)]
+
 ghost use Rattle.std.specs.Prelude.{◌≡◌, ◌<◌, get_or};
 ghost use Rattle.model.specs.Table.{members_in};
 ghost use Rattle.model.specs.Ring.{moves_to_ring};
@@ -9,7 +11,7 @@ ghost use Rattle.best_successors.specs.Places.{BestPlaces};
 ghost use Rattle.moves.specs.Ways.{no_more, AllSoFar, KnownAt, Measured};
 
 // A way of so many places whose moves to the ring are not known, and the moves from where it leads: the member count if nowhere.
-#[derive(Drop)]
+#[derive(Clone, Copy)]
 struct Way {
     steps: usize,
     value: u16,

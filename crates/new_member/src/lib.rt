@@ -1,4 +1,6 @@
 // One record of a new table. For `new_table`; a caller of the library uses none of this.
+#![tactic(auto)]
+
 ghost use Rattle.std.specs.Prelude.{◌≡◌, true, [], ◌∷◌, ◌+◌, ◌≤◌, ◌<◌, length, get_or, drop};
 ghost use Rattle.model.specs.Lists.{rising, overlay};
 ghost use Rattle.model.specs.Table.{record_size, record_of};

@@ -1,4 +1,6 @@
 // New: the table of rising identifiers.
+#![tactic(auto)]
+
 ghost use Rattle.std.specs.Prelude.{◌≡◌, true, ◌≤◌, length};
 ghost use Rattle.model.specs.Lists.{rising, overlay};
 ghost use Rattle.model.specs.Table.{size, words_of};

@@ -1,4 +1,6 @@
 // Numbers as bytes, high byte first, read and written. For the crates of the image; a caller of the library uses none of this.
+#![tactic(auto)]
+
 ghost use Rattle.std.specs.Prelude.{◌≡◌, ◌+◌, ◌*◌, ◌≤◌, ◌<◌, length};
 ghost use Rattle.model.specs.Image.{bytes_of, number_at, words4, numbers_at};
 ghost use Rattle.octets.specs.Placed.{placed};

@@ -1,4 +1,6 @@
 // A part of a line: where it ends, and the word or the number that it is.
+#![tactic(auto)]
+
 ghost use Rattle.std.specs.Prelude.{◌≡◌, ◌≤◌, length, take};
 ghost use Rattle.model.specs.Lists.{same as sameOf};
 ghost use Rattle.script.specs.Lines.{word_of};
@@ -7,14 +9,14 @@ ghost use Rattle.part.specs.Part.{reach, maybe_word, later_of, number_of};
 use script::Word;
 
 // The word that a part is.
-#[derive(Drop)]
+#[derive(Clone, Copy)]
 pub enum MaybeWord {
     Is(Word),
     Nothing,
 }
 
 // The number that a part is.
-#[derive(Drop)]
+#[derive(Clone, Copy)]
 pub enum Number {
     Value(u32),
     NoNumber,

@@ -1,4 +1,6 @@
 // Numbers by place: arrays with a number for each member. For the crates above; a caller of the library uses none of this.
+#![tactic(auto)]
+
 ghost use Rattle.std.specs.Prelude.{◌≡◌, ◌≤◌, eqb, length, take};
 ghost use Rattle.model.specs.Lists.{bit as bit_of, count};
 

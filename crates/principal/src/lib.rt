@@ -1,6 +1,8 @@
 // Principals: the members that no extended successor list skips. What a pair of a list skips is a range of places. The ranges are marked as
 // reaches, a number h at place k for the members from k to below h, and then read off once: no member is tested against every pair.
 // For the crates above, which hand over a well-formed table.
+#![tactic(auto)]
+
 ghost use Rattle.std.specs.Prelude.{◌≡◌, ◌&&◌, suc, ◌≤◌, ◌<◌, leb, ltb, length, get_or, replicate};
 ghost use Rattle.model.specs.Lists.{if◌then◌else◌};
 ghost use Rattle.model.specs.Identifier.{between};

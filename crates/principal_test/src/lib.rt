@@ -1,4 +1,6 @@
 // The principal test of one member: pair by pair, record by record, each extended successor list from its front, up to the first that skips it.
+#![tactic(auto)]
+
 ghost use Rattle.std.specs.Prelude.{◌≡◌, ◌<◌, get_or};
 ghost use Rattle.model.specs.Table.{members_in, ids};
 ghost use Rattle.model.specs.Ring.{nobody};

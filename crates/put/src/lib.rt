@@ -1,4 +1,6 @@
 // Bytes and numbers put into a slice. Each function writes from place `at` on, and answers the place after what it wrote.
+#![tactic(auto)]
+
 ghost use Rattle.std.specs.Prelude.{◌+◌, ◌≤◌, length};
 ghost use Rattle.script.specs.Text.{digits, numbers_text};
 ghost use Rattle.put.specs.Wrote.{Wrote};

@@ -1,4 +1,6 @@
 // Edits of a well-formed table, by places: a record is put in, in place and out. For the crates above.
+#![tactic(auto)]
+
 ghost use Rattle.std.specs.Prelude.{◌≡◌, false, ◌+◌, ◌≤◌, ◌<◌, length, get_or};
 ghost use Rattle.model.specs.Table.{record_size, size, members_in, table_of, ids};
 ghost use Rattle.model.specs.Ring.{live};

@@ -1,4 +1,6 @@
 // Rectify: a member takes a notice.
+#![tactic(auto)]
+
 ghost use Rattle.std.specs.Prelude.{◌≡◌};
 ghost use Rattle.model.specs.Calls.{rectify_answer, rectify_words};
 ghost use Rattle.answers.specs.Notice.{answer_of};

@@ -1,4 +1,6 @@
 // The member at a place takes a notice, on a table known to be well-formed. For the crates above.
+#![tactic(auto)]
+
 ghost use Rattle.std.specs.Prelude.{◌≡◌, ◌<◌, get_or};
 ghost use Rattle.model.specs.Table.{members_in, table_of, ids};
 ghost use Rattle.model.specs.Ring.{named, nobody};

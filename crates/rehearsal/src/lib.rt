@@ -1,4 +1,6 @@
 // A session of the rehearsal program, over lent slices.
+#![tactic(auto)]
+
 ghost use Rattle.std.specs.Prelude.{◌≡◌, ◌+◌, ◌*◌, ◌≤◌, ◌<◌, length, take};
 ghost use Rattle.script.specs.Lines.{counted as countedOf, lines};
 ghost use Rattle.script.specs.Session.{text_from, words_from};
@@ -7,7 +9,7 @@ ghost use Rattle.put.specs.Wrote.{Wrote};
 ghost use Rattle.rehearsal.specs.Outcomes.{outcome as outcomeOf, out_after, words_after, Within, Passed};
 
 // What a session gives: the count of bytes written, or the slice for them is too short.
-#[derive(Drop)]
+#[derive(Clone, Copy)]
 pub enum Outcome {
     Written(usize),
     TooShort,

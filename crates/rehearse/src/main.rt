@@ -1,4 +1,6 @@
 // The rehearsal program: a session from standard input to standard output.
+#![tactic(auto)]
+
 use libc::{STDIN_FILENO, STDOUT_FILENO};
 use rehearsal::Outcome;
 

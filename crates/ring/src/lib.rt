@@ -1,5 +1,7 @@
 // The members on the ring: those on a cycle of moves, found by doubling the moves. For the crates above, which hand over a well-formed table and
 // its best successors.
+#![tactic(auto)]
+
 ghost use Rattle.std.specs.Prelude.{◌≡◌, ◌≤◌, length, get_or};
 ghost use Rattle.model.specs.Table.{members_in};
 ghost use Rattle.model.specs.Ring.{ring_members};

@@ -1,5 +1,7 @@
 // Rising identifiers: whether they rise, the places of each one's neighbours, round the end, and how many are at or below another.
 // For `new_table` and `held`; a caller of the library uses none of this.
+#![tactic(auto)]
+
 ghost use Rattle.std.specs.Prelude.{◌≡◌, true, ◌<◌, length, get_or};
 ghost use Rattle.model.specs.Lists.{rising};
 ghost use Rattle.model.specs.Ring.{next_up, next_down};

@@ -1,4 +1,6 @@
 // One line of a session: its call, and what is printed for it.
+#![tactic(auto)]
+
 ghost use Rattle.std.specs.Prelude.{◌≡◌, true, ◌+◌, ◌*◌, ◌≤◌, length};
 ghost use Rattle.answers.specs.Packed.{Says};
 ghost use Rattle.script.specs.Lines.{takes, meaning};
@@ -12,7 +14,7 @@ use line::Line;
 use script::Word;
 
 // The call that a word with its numbers is; `new` is none of the seven.
-#[derive(Drop)]
+#[derive(Clone, Copy)]
 pub enum Named {
     Of(Call),
     Fresh,

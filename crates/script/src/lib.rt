@@ -1,7 +1,8 @@
 // The words of the rehearsal program. What a session means stands in specs/.
+#![tactic(auto)]
 
 // A word: `out` is withdrawal, `drop` loss.
-#[derive(Drop)]
+#[derive(Clone, Copy)]
 pub enum Word {
     New,
     Join,

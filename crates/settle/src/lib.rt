@@ -1,5 +1,7 @@
 // Settle: one round, rounds until the table is ideal, and rounds at the open minutes of a list. That the table is well-formed and sound is tested once, before the
 // first round: a round keeps it so.
+#![tactic(auto)]
+
 ghost use Rattle.std.specs.Prelude.{◌≡◌, false};
 ghost use Rattle.model.specs.Table.{table_of, members_in};
 ghost use Rattle.model.specs.Ring.{verdict, passed_by_all};
@@ -18,7 +20,7 @@ use answers::round_verdict::RoundVerdict;
 use answers::settled::Settled;
 
 // A table before its first round.
-#[derive(Drop)]
+#[derive(Clone, Copy)]
 enum Begun {
     // it gets rounds: the entries that its members pass over, added up
     Passed(u32),

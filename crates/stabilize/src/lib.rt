@@ -1,4 +1,6 @@
 // Stabilize: one step of a member.
+#![tactic(auto)]
+
 ghost use Rattle.std.specs.Prelude.{◌≡◌};
 ghost use Rattle.model.specs.Calls.{stabilize_answer, stabilize_words};
 ghost use Rattle.answers.specs.Step.{answer_of};

@@ -1,4 +1,6 @@
 // One stabilize step of the member at a place, on a table known to be well-formed. For the crates above.
+#![tactic(auto)]
+
 ghost use Rattle.std.specs.Prelude.{◌≡◌, ◌<◌, get_or};
 ghost use Rattle.model.specs.Table.{members_in, table_of, ids};
 ghost use Rattle.model.specs.Ring.{named};
@@ -15,7 +17,7 @@ use member::Member;
 use table::Located;
 
 // One step of a member.
-#[derive(Drop)]
+#[derive(Clone, Copy)]
 struct TakenStep {
     // the record that it leaves
     member: Member,

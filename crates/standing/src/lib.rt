@@ -1,11 +1,13 @@
 // What the calls of one member share: where it stands, or why the call is declined.
+#![tactic(auto)]
+
 ghost use Rattle.std.specs.Prelude.{◌≡◌};
 ghost use Rattle.standing.specs.Standing.{standing_of};
 
 use table::Located;
 
 // The member that a call is of.
-#[derive(Drop)]
+#[derive(Clone, Copy)]
 pub enum Standing {
     // its place
     At(usize),

@@ -1,5 +1,7 @@
 // Members of a table in a slice: the test for well-formed tables, and where a member stands.
 // For the crates above; behind `well_formed`, each function asks for a well-formed table.
+#![tactic(auto)]
+
 ghost use Rattle.std.specs.Prelude.{◌≡◌, true, false, ◌&&◌, ◌+◌, ◌*◌, ◌≤◌, ◌<◌, leb, ltb, eqb, length, get_or};
 ghost use Rattle.model.specs.Table.{record_size, record_of, members_of, members_in, ids, well_formed};
 ghost use Rattle.model.specs.Ring.{nobody};
@@ -12,7 +14,7 @@ ghost use Rattle.table.specs.Tests.{right_pending, right_from};
 use member::Member;
 
 // Where an identifier stands among the members, or would stand.
-#[derive(Drop)]
+#[derive(Clone, Copy)]
 pub enum Located {
     // the place where it stands
     Here(usize),

@@ -1,4 +1,6 @@
 // The take-over choice of a shelf that holds two replies.
+#![tactic(auto)]
+
 ghost use Rattle.std.specs.Prelude.{◌≡◌};
 ghost use Rattle.model.specs.Lists.{without_last};
 ghost use Rattle.model.specs.TakeOver.{chooses_candidate, take_over};

@@ -1,4 +1,6 @@
 // The line that a session prints for a line of its input, put into a slice from place `at` on. Each function answers the place after what it wrote.
+#![tactic(auto)]
+
 ghost use Rattle.std.specs.Prelude.{[], ◌∷◌, ◌++◌, ◌+◌, ◌≤◌, length};
 ghost use Rattle.answers.specs.Packed.{unpacked};
 ghost use Rattle.script.specs.Text.{numbers_text, fields_text, answer_text, answered as answeredOf, unread as unreadOf};

@@ -10,7 +10,7 @@ use borrow.Author.Tests.{lt-ltb, le-ltb, le-leb, lt-leb, eq-eqb, ne_eqb, leb-tru
 use Rattle.model.specs.Lists.{bit, rising}
 use Rattle.model.specs.Table.{Member, Table, table_of, members_in, ids, well_formed}
 use Rattle.model.specs.Ring.{live, successor, Search, searched, best_successor, next_up, next_down, ideal}
-use Rattle.model.specs.Held.{first_from, lowest, holder, keys_to, Run, ◌upTo◌, runs_of}
+use Rattle.model.specs.Held.{first_from, lowest, holder, keys_to, Run, ◌up_to◌, runs_of}
 use Rattle.model.specs.Calls.{lookup_answer}
 use Rattle.laws.specs.Order.{Comparison, less, equals, greater, compare, less?, equal?, Inside, mid, high, low, Outside, below, beyond, rest, inside_true, true_inside, inside_outside}
 use Rattle.laws.specs.Lists.{In, here, there, in_cons, in_nil, count_le, count_length, Rising, rising_true, above_in, above_rising, length_ids, found, in_ids, live_in, in_live}

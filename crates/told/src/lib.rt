@@ -1,4 +1,6 @@
 // The fields of an accepted call, put into a slice: its values, of which stabilize and rectify tell the first by a word.
+#![tactic(auto)]
+
 ghost use Rattle.std.specs.Prelude.{◌+◌, ◌≤◌, length};
 ghost use Rattle.script.specs.Text.{step_text, notice_text, told_text, fields_text};
 ghost use Rattle.put.specs.Wrote.{Wrote};

@@ -1,4 +1,6 @@
 // Is a table sound, the pending candidates that this looks at, and the verdict. For the crates above.
+#![tactic(auto)]
+
 ghost use Rattle.std.specs.Prelude.{◌≡◌, ℕ, ◌*◌, ◌≤◌, length};
 ghost use Rattle.model.specs.Lists.{every};
 ghost use Rattle.model.specs.Table.{record_size, member_of, members_of, members_in, table_of};

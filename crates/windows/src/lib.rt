@@ -1,5 +1,7 @@
 // Windows of the week as words, start and end by turns, and lists of minutes: whether they are right, and whether a minute is open.
 // For `hours` and `settle`; a caller of the library uses none of this.
+#![tactic(auto)]
+
 ghost use Rattle.std.specs.Prelude.{◌≡◌, ◌-◌, ◌≤◌, not, ◌++◌, length, replicate};
 ghost use Rattle.model.specs.Windows.{window, windows_in, in_window, is_open};
 ghost use Rattle.model.specs.Refusals.{right_window, bad_windows, bad_minutes};

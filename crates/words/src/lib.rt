@@ -1,4 +1,6 @@
 // The words of one record, and gaps among records. For the crates above; a caller of the library uses none of this.
+#![tactic(auto)]
+
 ghost use Rattle.std.specs.Prelude.{◌≡◌, ◌++◌, ◌+◌, ◌*◌, ◌≤◌, length, take, drop, replicate};
 ghost use Rattle.model.specs.Table.{header_size, record_size, member_of, record_of};
 ghost use Rattle.member.specs.View.{view};

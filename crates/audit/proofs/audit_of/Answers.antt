@@ -1,0 +1,6 @@
+-- `audit_of` meets its contract. Assumes nothing.
+use Rattle.best_successors.proofs.Laws.{member_count}
+use Rattle.audit.proofs.audit_of.Goals as goal
+
+pub returns : goal.returns
+returns c = rw (c.count_principals-count.ensures.0, c.count_ring-on.ensures.0, c.verdict_of-v.ensures, member_count c.args.t.now)

@@ -1,0 +1,7 @@
+-- `ring_settle_at` meets its contract. Assumes nothing.
+use mathlib.Core.Path.{ap, ◌∙◌}
+use Rattle.answers.specs.Packed.{packed}
+use Rattle.capi.proofs.ring_settle_at.Goals as goal
+
+pub returns : goal.returns
+returns c = (c.numbers.ensures.packs ∙ ap packed c.settle_at.ensures.0, c.settle_at.ensures.1)

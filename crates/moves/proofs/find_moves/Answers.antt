@@ -1,0 +1,14 @@
+-- `find_moves` meets its contract. Assumes nothing.
+use native.Mathlib.Omega.{arith}
+use Rattle.moves.proofs.Ways.{is_known}
+use Rattle.moves.proofs.find_moves.Goals as goal
+
+pub returns-then-a-k-gt0 : goal.returns-then-a-k-gt0
+returns-then-a-k-gt0 c =
+    let b = c.requires.all_so_far in
+    record { so_far = b; here = is_known c.args.t.now c.args.a.now c.args.k (b.at c.args.k c.requires.k_bound) (omega (arith, c.if-a-k-gt0.true)) }
+
+pub way_from-way-requires : goal.way_from-way-requires
+way_from-way-requires c =
+    let p = c.requires in
+    (p.0, (p.1.0, (p.1.1.0, (p.1.1.1, omega (arith, c.if-a-k-gt0.false)))))

@@ -1,0 +1,21 @@
+-- `begun_formed` meets its contract: no cause applies, or 14. Assumes nothing.
+use mathlib.Core.Path.{sym, ◌∙◌}
+use borrow.Author.Rules.{rules}
+use Rattle.laws.specs.Accepted.{settle_accepts}
+use Rattle.settle.proofs.Laws.{not_sound}
+use Rattle.settle.proofs.begun_formed.Goals as goal
+
+pub is_sound-requires : goal.is_sound-requires
+is_sound-requires c = record { formed_words = c.requires; best_places = c.fill_best-passed.ensures.0; count_value = c.count_principals-count.ensures.0 }
+
+pub returns-then-is_sound : goal.returns-then-is_sound
+returns-then-is_sound c = (settle_accepts _ c.requires.right (sym c.is_sound.ensures ∙ c.if-is_sound.true), c.fill_best-passed.ensures.1)
+
+pub returns : goal.returns
+returns c = not_sound _ c.requires.right (sym c.is_sound.ensures ∙ c.if-is_sound.false)
+
+pub fill_best-passed-requires : goal.fill_best-passed-requires
+fill_best-passed-requires c = (c.requires, search rules)
+
+pub count_principals-count-requires : goal.count_principals-count-requires
+count_principals-count-requires c = c.requires
