@@ -77,8 +77,8 @@ from_first k d (y ∷ l) a = go (less? y k) (from_first k d l (above_rising y l 
 
 -- A member x of rising numbers and the one before it, d: x holds the keys on the way from d to x
 
-up_to : (d k x : ℕ) → k ≤ x → (k < x → Inside d k x) → Owns d k x
-up_to d k x h f = go (compare k x)
+owns_up_to : (d k x : ℕ) → k ≤ x → (k < x → Inside d k x) → Owns d k x
+owns_up_to d k x h f = go (compare k x)
   where
     go : Comparison k x → Owns d k x
     go (less q) = inr (inside_true (f q))
@@ -117,8 +117,8 @@ module _ (xs : List ℕ) (a : Rising xs) (d x : ℕ) (i : In x xs) (spares : (z 
   holder_owns k j e = go (from_first k (get_or xs 0 0) xs a) (less? d x)
     where
       go : First k (get_or xs 0 0) xs → (d < x) ⊎ (x ≤ d) → Owns d k x
-      go (inl w) (inl l) = up_to d k x (omega (arith, w.1)) (λ q. mid (w.2 d j (omega arith)) q)
-      go (inl w) (inr l) = up_to d k x (omega (arith, w.1)) (λ q. low q l)
+      go (inl w) (inl l) = owns_up_to d k x (omega (arith, w.1)) (λ q. mid (w.2 d j (omega arith)) q)
+      go (inl w) (inr l) = owns_up_to d k x (omega (arith, w.1)) (λ q. low q l)
       go (inr w) l = inr (inside_true (high (omega (arith, w.1, first_least xs a j)) (w.0 d j)))
 
 -- The runs of one member
@@ -156,14 +156,14 @@ module _ (ms : List Member) (ks : List ℕ) (am : Rising (ids ms)) (ak : Rising 
         go : (d < key) ⊎ (key ≤ d) → (x < key) ⊎ (key ≤ x) → bit (ltb d key) + (bit (leb key x) + 0) ≡ bit (eqb x (holder ms key))
         go (inl u) v = rw (owned key (inr (inside_true (high l u))), lt-ltb d key u, lt-leb key x (omega arith))
         go (inr u) (inl v) = rw (other key (not_owns (rest (omega arith) u) (omega arith)), le-ltb d key u, lt-leb key x v)
-        go (inr u) (inr v) = rw (owned key (up_to d key x v (λ q. low q l)), le-ltb d key u, le-leb key x v)
+        go (inr u) (inr v) = rw (owned key (owns_up_to d key x v (λ q. low q l)), le-ltb d key u, le-leb key x v)
 
     elsewhere : d < x → bit (ltb d key && leb key x) + 0 ≡ bit (eqb x (holder ms key))
     elsewhere l = go (less? d key) (less? x key)
       where
         go : (d < key) ⊎ (key ≤ d) → (x < key) ⊎ (key ≤ x) → bit (ltb d key && leb key x) + 0 ≡ bit (eqb x (holder ms key))
         go (inl u) (inl v) = rw (other key (not_owns (beyond l (omega arith)) (omega arith)), lt-ltb d key u, lt-leb key x v)
-        go (inl u) (inr v) = rw (owned key (up_to d key x v (λ q. mid u q)), lt-ltb d key u, le-leb key x v)
+        go (inl u) (inr v) = rw (owned key (owns_up_to d key x v (λ q. mid u q)), lt-ltb d key u, le-leb key x v)
         go (inr u) v = rw (other key (not_owns (below u l) (omega arith)), le-ltb d key u)
 
     pub in_one_run : runs_at p (runs_of ms x ks) ≡ bit (eqb x (holder ms key))

@@ -38,7 +38,7 @@ module _ {f : ℕ → ℕ} {p : ℕ} where
   route_iterate (step n d) = let w = route_iterate d in (suc w.0, w.1)
 
   -- of two routes from one place, one is a part of the other
-  one_route : {x y z : ℕ} → Route f p y x → Route f p z x → Route f p z y ⊎ Route f p y z
+  one_route : {y x z : ℕ} → Route f p y x → Route f p z x → Route f p z y ⊎ Route f p y z
   one_route (stop e) d = inl (subst (Route f p _) e d)
   one_route (step n d) (stop e) = inr (subst (Route f p _) e (step n d))
   one_route (step n d) (step m c) = one_route d c
