@@ -190,8 +190,11 @@ named_at (at_first e) = rw (eq-eqb _ _ e)
 named_at (at_later h a) = rw (below_eqb _ _ h) (named_at a)
 
 pub replaced_at : {k : ℕ} {ms : List Member} (v : Member) → At v.id ms k → replaced v ms ≡ take k ms ++ (v ∷ drop (suc k) ms)
-replaced_at v (at_first e) = rw (eq-eqb _ _ e)
-replaced_at v (at_later {m = m} h a) = rw (below_eqb _ _ h) (ap (λ (l : List Member). m ∷ l) (replaced_at v a))
+replaced_at v a = go a
+  where
+    go : {k : ℕ} {ms : List Member} → At v.id ms k → replaced v ms ≡ take k ms ++ (v ∷ drop (suc k) ms)
+    go (at_first e) = rw (eq-eqb _ _ e)
+    go (at_later {m = m} h a) = rw (below_eqb _ _ h) (ap (λ (l : List Member). m ∷ l) (go a))
 
 -- the member that stands there put in its own place
 pub replaced_same : {x k : ℕ} {ms : List Member} → At x ms k → replaced (get_or ms k nobody) ms ≡ ms
@@ -203,9 +206,12 @@ without_at r (at_first {m = m} {ms = ms} e) = rw (eq-eqb _ _ e) (without_none _ 
 without_at r (at_later {m = m} {ms = ms} h a) = rw (below_eqb _ _ h) (ap (λ (l : List Member). m ∷ l) (without_at (rising_tail m.id (ids ms) r) a))
 
 pub inserted_at : {k : ℕ} {ms : List Member} (v : Member) → Gap v.id ms k → inserted v ms ≡ take k ms ++ (v ∷ drop k ms)
-inserted_at v gap_last = refl
-inserted_at v (gap_first h) = rw (lt-ltb _ _ h)
-inserted_at v (gap_later {m = m} h a) = rw (le-ltb v.id m.id (omega arith)) (ap (λ (l : List Member). m ∷ l) (inserted_at v a))
+inserted_at v g = go g
+  where
+    go : {k : ℕ} {ms : List Member} → Gap v.id ms k → inserted v ms ≡ take k ms ++ (v ∷ drop k ms)
+    go gap_last = refl
+    go (gap_first h) = rw (lt-ltb _ _ h)
+    go (gap_later {m = m} h a) = rw (le-ltb v.id m.id (omega arith)) (ap (λ (l : List Member). m ∷ l) (go a))
 
 -- each of rising identifiers stands at its place
 at_place : (ms : List Member) (k : ℕ) → rising (ids ms) ≡ true → k < length (ids ms) → At (get_or (ids ms) k 0) ms k

@@ -1,5 +1,5 @@
 -- What follows the first statement of a body: for the walks by hand of the crates above, the part of a loop's iteration after its test, which has no name in the generated MIR.
-use package.mir.Syntax.{Body, skip, seq, assign, block, loop, cond, switch, exit, return, call}
+use mir.Syntax.{Body, skip, seq, assign, block, loop, cond, switch, exit, return, call, unreachable, call_v, lend_static}
 
 abbrev pub tail : Body → Body
 tail (seq a b) = b
@@ -12,3 +12,6 @@ tail (switch c r) = skip
 tail (exit n) = skip
 tail return = skip
 tail (call f xs d) = skip
+tail unreachable = skip
+tail (call_v f d xs r) = skip
+tail (lend_static x y z) = skip

@@ -35,10 +35,10 @@ returns-then-o-all c =
     let known : let a = c.args in Behind a.image.now a.at (c.image_count.result * c.field_size-w.result) c.field_size-w.result = (
         let w : c.field_size-w.result ≡ field_size (image_r c.args.image.now) = sized ∙ ap field_size c.image_r-r.ensures.0 in
     record {
-      some_way = c.if-at-eq0.left;
-      past_first = c.if-at-lt-MEMBERS.left;
-      whole = c.if-image-lt-MEMBERS.left;
-      head = sym c.head_is.ensures ∙ c.if-head_is.taken;
+      some_way = c.if-at-eq0.false;
+      past_first = c.if-at-lt-MEMBERS.false;
+      whole = c.if-image-lt-MEMBERS.false;
+      head = sym c.head_is.ensures ∙ c.if-head_is.true;
       one = w;
       together = ap₂ (λ (n k : ℕ). n * k) c.image_count.ensures.0 w;
     }) in
@@ -50,10 +50,10 @@ returns-then-all-o c =
     let known : let a = c.args in Behind a.image.now a.at (c.image_count.result * c.field_size-w.result) c.field_size-w.result = (
         let w : c.field_size-w.result ≡ field_size (image_r c.args.image.now) = sized ∙ ap field_size c.image_r-r.ensures.0 in
     record {
-      some_way = c.if-at-eq0.left;
-      past_first = c.if-at-lt-MEMBERS.left;
-      whole = c.if-image-lt-MEMBERS.left;
-      head = sym c.head_is.ensures ∙ c.if-head_is.taken;
+      some_way = c.if-at-eq0.false;
+      past_first = c.if-at-lt-MEMBERS.false;
+      whole = c.if-image-lt-MEMBERS.false;
+      head = sym c.head_is.ensures ∙ c.if-head_is.true;
       one = w;
       together = ap₂ (λ (n k : ℕ). n * k) c.image_count.ensures.0 w;
     }) in
@@ -76,10 +76,10 @@ returns-then-o-w-eq0 c =
     let known : let a = c.args in Behind a.image.now a.at (c.image_count.result * c.field_size-w.result) c.field_size-w.result = (
         let w : c.field_size-w.result ≡ field_size (image_r c.args.image.now) = sized ∙ ap field_size c.image_r-r.ensures.0 in
     record {
-      some_way = c.if-at-eq0.left;
-      past_first = c.if-at-lt-MEMBERS.left;
-      whole = c.if-image-lt-MEMBERS.left;
-      head = sym c.head_is.ensures ∙ c.if-head_is.taken;
+      some_way = c.if-at-eq0.false;
+      past_first = c.if-at-lt-MEMBERS.false;
+      whole = c.if-image-lt-MEMBERS.false;
+      head = sym c.head_is.ensures ∙ c.if-head_is.true;
       one = w;
       together = ap₂ (λ (n k : ℕ). n * k) c.image_count.ensures.0 w;
     }) in
@@ -94,10 +94,10 @@ returns-else-o-w-eq0 c =
     let known : let a = c.args in Behind a.image.now a.at (c.image_count.result * c.field_size-w.result) c.field_size-w.result = (
         let w : c.field_size-w.result ≡ field_size (image_r c.args.image.now) = sized ∙ ap field_size c.image_r-r.ensures.0 in
     record {
-      some_way = c.if-at-eq0.left;
-      past_first = c.if-at-lt-MEMBERS.left;
-      whole = c.if-image-lt-MEMBERS.left;
-      head = sym c.head_is.ensures ∙ c.if-head_is.taken;
+      some_way = c.if-at-eq0.false;
+      past_first = c.if-at-lt-MEMBERS.false;
+      whole = c.if-image-lt-MEMBERS.false;
+      head = sym c.head_is.ensures ∙ c.if-head_is.true;
       one = w;
       together = ap₂ (λ (n k : ℕ). n * k) c.image_count.ensures.0 w;
     }) in

@@ -46,13 +46,13 @@ loop-left-preserved c =
     let f = sized in
     let w = c.record_size-s.ensures in
     let wrote = c.read_field in
-    let n : length wrote.new.0 ≡ length k.t = c.t-1.given in
+    let n : length wrote.new.t ≡ length k.t = c.t-1.given in
     let l : (k.left - 1) * field_size r ≤ length k.p.now - field_size r = omega (arith, one_of k.left (field_size r) c.loop-left-test.true) in
-    let u : k.at + record_size r + (k.left - 1) * record_size r ≤ length wrote.new.0 = omega (arith, one_of k.left (record_size r) c.loop-left-test.true) in (
+    let u : k.at + record_size r + (k.left - 1) * record_size r ≤ length wrote.new.t = omega (arith, one_of k.left (record_size r) c.loop-left-test.true) in (
       rw (part_from, length-drop, f) l,
       omega (arith, u),
       n ∙ k.invariant.2,
-      rw part_from (one_more_record k.at r k.left _ _ w f c.loop-left-test.true k.p.now k.t wrote.new.0 (omega arith) wrote.ensures
+      rw part_from (one_more_record k.at r k.left _ _ w f c.loop-left-test.true k.p.now k.t wrote.new.t (omega arith) wrote.ensures
           ∙ k.invariant.3),
     )
 

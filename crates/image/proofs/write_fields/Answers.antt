@@ -56,12 +56,12 @@ loop-left-preserved c =
     let f = sized in
     let w = c.record_size-w.ensures in
     let wrote = c.write_field in
-    let n : length wrote.new.0 ≡ length k.out = c.out-1.given in
-    let u : k.at + field_size r + (k.left - 1) * field_size r ≤ length wrote.new.0 = omega (arith, one_of k.left (field_size r) c.loop-left-test.true) in (
+    let n : length wrote.new.out ≡ length k.out = c.out-1.given in
+    let u : k.at + field_size r + (k.left - 1) * field_size r ≤ length wrote.new.out = omega (arith, one_of k.left (field_size r) c.loop-left-test.true) in (
       rw (part_from, w) (rest_fits r k.left k.p.now c.loop-left-test.true k.invariant.0),
       omega (arith, u),
       n ∙ k.invariant.2,
-      rw part_from (one_more_field k.at r k.left _ _ w f c.loop-left-test.true k.p.now k.out wrote.new.0 k.invariant.0 (omega arith)
+      rw part_from (one_more_field k.at r k.left _ _ w f c.loop-left-test.true k.p.now k.out wrote.new.out k.invariant.0 (omega arith)
           wrote.ensures ∙ k.invariant.3),
     )
 

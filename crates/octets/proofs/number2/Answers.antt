@@ -22,3 +22,4 @@ returns c =
     (
   sym (two_at c.args.bs.now c.args.at (omega arith)),
   omega (arith, c.shared_slice_known-1.given c.args.at, c.shared_slice_known-2-1.given (c.args.at + 1)),
+    )

@@ -22,7 +22,7 @@ loop-i-preserved c =
     let k = c.loop-i in
     let a = c.args in
     let h : k.i < length a.ws.now = omega arith in
-    let n : length wrote.new.0 ≡ length k.out = ap length wrote.ensures ∙ placed_length (a.at + 4 * k.i) (bytes_of 4 (get_or a.ws.now k.i 0)) k.out (omega arith) in (
+    let n : length wrote.new.out ≡ length k.out = ap length wrote.ensures ∙ placed_length (a.at + 4 * k.i) (bytes_of 4 (get_or a.ws.now k.i 0)) k.out (omega arith) in (
       omega arith,
       n ∙ k.invariant.1,
       ap (λ (l : List ℕ). placed (a.at + 4 * (k.i + 1)) (words4 (drop (k.i + 1) a.ws.now)) l) wrote.ensures

@@ -17,7 +17,7 @@ read r ws l e = ap₂ (λ (s : ℕ) (x : List ℕ). with_steps s (with_successor
 pub returns-then-part : goal.returns-then-part
 returns-then-part c =
     let a = c.args in
-    read a.r a.part.now _ (entries_at_once a.r a.part.now c.requires.0 (omega (arith, c.if-part.taken)))
+    read a.r a.part.now _ (entries_at_once a.r a.part.now c.requires.0 (omega (arith, c.if-part.true)))
 
 pub loop-i-preserved : goal.loop-i-preserved
 loop-i-preserved c =

@@ -9,4 +9,4 @@ use borrow.Author.Rules.{rules}
 use Rattle.member.proofs.Member.adopt.Goals as goal
 
 pub returns : goal.returns
-returns c = λ r lo hi. let a = c.args in ap (λ (x : List ℕ). with_successors x (view r a.self)) (adopted a.x r a.t3 (search rules) lo hi)
+returns c = λ r lo hi. let a = c.args in ap (λ (x : List ℕ). with_successors x (view r a.self)) (adopted a.x r a.l (search rules) lo hi)
