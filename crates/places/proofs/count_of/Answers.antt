@@ -11,17 +11,18 @@ use lib.ListN.{get_or}
 use Rattle.model.specs.Lists.{bit}
 use Rattle.places.proofs.Arrays.{count_one, count_end}
 use Rattle.places.proofs.count_of.Goals as goal
+use Rattle.places.proofs.count_of.Goals.{then-v-a, else-v-a}
 
 pub loop-k-init : goal.loop-k-init
 loop-k-init c = (search rules, search rules, zero-add _)
 
 pub loop-k-preserved : goal.loop-k-preserved
 loop-k-preserved c =
-    let tested : let l = c.loop-k in let a = c.args in c.if-v-a.c ≡ l.c + bit (eqb a.v (get_or a.a.now l.k 0)) = ⊎_elim (λ w. rw (w.1, eq-eqb _ _ w.0.taken)) (λ w. rw (w.1, ne_eqb _ _ w.0.left) (sym (add-zero _))) c.if-v-a.branch in
+    let tested : let l = c.loop-k in let a = c.args in c.if-v-a.c ≡ l.c + bit (eqb a.v (get_or a.a.now l.k 0)) = elim c.if-v-a.branch [ then-v-a w ↦ rw (w.c-is, eq-eqb _ _ w.if-v-a.true) | else-v-a w ↦ rw (w.c-is, ne_eqb _ _ w.if-v-a.false) (sym (add-zero _)) ] in
     let l = c.loop-k in
     let a = c.args in (
       search rules,
-      ⊎_elim (λ w. omega arith) (λ w. omega arith) c.if-v-a.branch,
+      elim c.if-v-a.branch [ then-v-a w ↦ omega arith | else-v-a w ↦ omega arith ],
       count_one (eqb a.v) a.a.now a.n (omega arith) l.k l.c c.if-v-a.c _ c.loop-k-test.true refl tested ∙ l.invariant.2,
     )
 

@@ -12,12 +12,12 @@ use Rattle.principal.proofs.principal_bits.Goals as goal
 
 pub loop-k-init : goal.loop-k-init
 loop-k-init c =
-    let reaches = (c.mark_skipped.new.reach.0) in
+    let reaches = (c.mark_skipped.new.reach) in
     (search rules, c.mark_skipped.ensures.0, top_none reaches, each_none _ _ _, λ j h. refl)
 
 pub loop-k-preserved : goal.loop-k-preserved
 loop-k-preserved c =
-    let reaches = (c.mark_skipped.new.reach.0) in
+    let reaches = (c.mark_skipped.new.reach) in
     let higher : let l = c.loop-k in Top reaches (l.k + 1) c.larger-top.result = (
         let l = c.loop-k in
     top_more reaches l.k l.top c.larger-top.result (omega (arith, c.mark_skipped.ensures.0)) l.invariant.2 (rw (l.invariant.4 l.k (omega arith)) at c.larger-top.ensures)) in

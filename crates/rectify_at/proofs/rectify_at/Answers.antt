@@ -34,8 +34,8 @@ pub returns-then-renews_at : goal.returns-then-renews_at
 returns-then-renews_at c =
     let here = (let a = c.args in get_or (members_in a.t.now) a.k nobody) in
     let stands : Stands c.args.t.now c.args.k (get_or (ids (members_in c.args.t.now)) c.args.k 0) = own_place c.args.t.now c.args.k c.requires.k_bound in
-    let by_name : {ys : List ℕ} → let a = c.args in let ws = a.t.now in let n = get_or (ids (members_in ws)) a.k 0 in (answerIs : Answer) → answerIs ≡ accepted (rectify_reply (members_in ws) a.q here) → ys ≡ written (with_members (replaced (rectify_in (members_in ws) a.q here) (members_in ws)) (table_of ws)) ws → (answerIs ≡ accepted (rectify_reply (members_in ws) a.q (named (members_in ws) n))) × (ys ≡ written (rectified n a.q (table_of ws)) ws) = (
-        λ (x : Answer) p q. let ws = c.args.t.now in
+    let by_name : (ys : List ℕ) → let a = c.args in let ws = a.t.now in let n = get_or (ids (members_in ws)) a.k 0 in (answerIs : Answer) → answerIs ≡ accepted (rectify_reply (members_in ws) a.q here) → ys ≡ written (with_members (replaced (rectify_in (members_in ws) a.q here) (members_in ws)) (table_of ws)) ws → (answerIs ≡ accepted (rectify_reply (members_in ws) a.q (named (members_in ws) n))) × (ys ≡ written (rectified n a.q (table_of ws)) ws) = (
+        λ (ys : List ℕ) (x : Answer) p q. let ws = c.args.t.now in
     let m = stands_named c.requires.formed_words stands in (
       p ∙ ap (λ (v : Member). accepted (rectify_reply (members_in ws) c.args.q v)) m,
       q ∙ ap (λ (v : Member). written (with_members (replaced (rectify_in (members_in ws) c.args.q v) (members_in ws)) (table_of ws)) ws) m,
@@ -48,15 +48,15 @@ returns-then-renews_at c =
     c.rectify-o.ensures w ∙ ap (λ (b : Bool). rectify b a.q (view w c.member_at-m.result)) alive
     ∙ ap (rectify (live (members_in a.t.now) here.predecessor) a.q) c.member_at-m.ensures) in
     let ws = c.args.t.now in
-    by_name _ (ap (λ (b : Bool). accepted (bit b ∷ [])) (sym c.if-renews_at.true ∙ told))
+    by_name _ _ (ap (λ (b : Bool). accepted (bit b ∷ [])) (sym c.if-renews_at.true ∙ told))
     (c.replace_at.ensures ∙ ap (λ (m : Member). written (with_members (replaced m (members_in ws)) (table_of ws)) ws) noticed)
 
 pub returns : goal.returns
 returns c =
     let here = (let a = c.args in get_or (members_in a.t.now) a.k nobody) in
     let stands : Stands c.args.t.now c.args.k (get_or (ids (members_in c.args.t.now)) c.args.k 0) = own_place c.args.t.now c.args.k c.requires.k_bound in
-    let by_name : {ys : List ℕ} → let a = c.args in let ws = a.t.now in let n = get_or (ids (members_in ws)) a.k 0 in (answerIs : Answer) → answerIs ≡ accepted (rectify_reply (members_in ws) a.q here) → ys ≡ written (with_members (replaced (rectify_in (members_in ws) a.q here) (members_in ws)) (table_of ws)) ws → (answerIs ≡ accepted (rectify_reply (members_in ws) a.q (named (members_in ws) n))) × (ys ≡ written (rectified n a.q (table_of ws)) ws) = (
-        λ (x : Answer) p q. let ws = c.args.t.now in
+    let by_name : (ys : List ℕ) → let a = c.args in let ws = a.t.now in let n = get_or (ids (members_in ws)) a.k 0 in (answerIs : Answer) → answerIs ≡ accepted (rectify_reply (members_in ws) a.q here) → ys ≡ written (with_members (replaced (rectify_in (members_in ws) a.q here) (members_in ws)) (table_of ws)) ws → (answerIs ≡ accepted (rectify_reply (members_in ws) a.q (named (members_in ws) n))) × (ys ≡ written (rectified n a.q (table_of ws)) ws) = (
+        λ (ys : List ℕ) (x : Answer) p q. let ws = c.args.t.now in
     let m = stands_named c.requires.formed_words stands in (
       p ∙ ap (λ (v : Member). accepted (rectify_reply (members_in ws) c.args.q v)) m,
       q ∙ ap (λ (v : Member). written (with_members (replaced (rectify_in (members_in ws) c.args.q v) (members_in ws)) (table_of ws)) ws) m,
@@ -67,6 +67,6 @@ returns c =
     let ms = members_in ws in
     let none = sym told ∙ c.if-renews_at.false in
     let at = stands_at c.requires.formed_words stands in
-    by_name _ (ap (λ (b : Bool). accepted (bit b ∷ [])) (sym c.if-renews_at.false ∙ told))
+    by_name _ _ (ap (λ (b : Bool). accepted (bit b ∷ [])) (sym c.if-renews_at.false ∙ told))
     (same_words ws c.requires.formed_words ∙ ap (λ (l : List Member). written (with_members l (table_of ws)) ws) (sym (replaced_same at))
     ∙ ap (λ (v : Member). written (with_members (replaced v ms) (table_of ws)) ws) (rectify_none ms c.args.q here none))

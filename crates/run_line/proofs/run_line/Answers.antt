@@ -37,25 +37,25 @@ module _ (d : tie.After-call) where
 pub slice_bounds-xs-end : goal.slice_bounds-xs-end
 slice_bounds-xs-end c =
     let count = (c.w-1.given.0.1.0) in
-    let within : count ≤ length c.read.new.xs.0 = (
+    let within : count ≤ length c.read.new.xs = (
         let k : count ≤ 258 = rw c.in-Asks.is at c.read.ensures.1 in
-    let e : length c.read.new.xs.0 ≡ 258 = c.read.auto.1.0 in
+    let e : length c.read.new.xs ≡ 258 = c.read.auto.1.0 in
     omega arith) in
     within
 
 pub slice_bounds-call-end : goal.slice_bounds-call-end
 slice_bounds-call-end c =
     let count = (c.w-1.given.0.1.0) in
-    let within : count ≤ length c.read.new.xs.0 = (
+    let within : count ≤ length c.read.new.xs = (
         let k : count ≤ 258 = rw c.in-Asks.is at c.read.ensures.1 in
-    let e : length c.read.new.xs.0 ≡ 258 = c.read.auto.1.0 in
+    let e : length c.read.new.xs ≡ 258 = c.read.auto.1.0 in
     omega arith) in
-    sym (length-take-le count c.read.new.xs.0 within)
+    sym (length-take-le count c.read.new.xs within)
 
 pub call-a-requires : goal.call-a-requires
 call-a-requires c =
     let count = (c.w-1.given.0.1.0) in
-    let asked : let a = c.args in Asked a.n a.t.now a.l.now c.in-Asks.w (take count c.read.new.xs.0) = (
+    let asked : let a = c.args in Asked a.n a.t.now a.l.now c.in-Asks.w (take count c.read.new.xs) = (
         let a = c.args in
     asked_line a.n a.t.now a.l.now c.in-Asks.w (take count c.read.last.1.0)
     (ap (λ (x : Line). viewed x c.read.last.1.0) (sym c.in-Asks.is) ∙ c.read.ensures.0)) in
@@ -64,7 +64,7 @@ call-a-requires c =
 pub answered-requires : goal.answered-requires
 answered-requires c =
     let count = (c.w-1.given.0.1.0) in
-    let asked : let a = c.args in Asked a.n a.t.now a.l.now c.in-Asks.w (take count c.read.new.xs.0) = (
+    let asked : let a = c.args in Asked a.n a.t.now a.l.now c.in-Asks.w (take count c.read.new.xs) = (
         let a = c.args in
     asked_line a.n a.t.now a.l.now c.in-Asks.w (take count c.read.last.1.0)
     (ap (λ (x : Line). viewed x c.read.last.1.0) (sym c.in-Asks.is) ∙ c.read.ensures.0)) in
@@ -77,7 +77,7 @@ unread-requires c = omega (arith, c.requires, unread_most c.args.n c.requires.0)
 pub returns-in-Asks : goal.returns-in-Asks
 returns-in-Asks c =
     let count = (c.w-1.given.0.1.0) in
-    let asked : let a = c.args in Asked a.n a.t.now a.l.now c.in-Asks.w (take count c.read.new.xs.0) = (
+    let asked : let a = c.args in Asked a.n a.t.now a.l.now c.in-Asks.w (take count c.read.new.xs) = (
         let a = c.args in
     asked_line a.n a.t.now a.l.now c.in-Asks.w (take count c.read.last.1.0)
     (ap (λ (x : Line). viewed x c.read.last.1.0) (sym c.in-Asks.is) ∙ c.read.ensures.0)) in
@@ -90,5 +90,5 @@ returns-in-Asks c =
 pub returns-in-Bad : goal.returns-in-Bad
 returns-in-Bad c =
     let a = c.args in
-    let u = unread_line a.n a.t.now a.l.now (ap (λ (x : Line). viewed x c.read.new.xs.0) (sym c.in-Bad.is) ∙ c.read.ensures.0) in
+    let u = unread_line a.n a.t.now a.l.now (ap (λ (x : Line). viewed x c.read.new.xs) (sym c.in-Bad.is) ∙ c.read.ensures.0) in
     (wrote_same u.0 c.unread.ensures, u.1, omega (arith, c.unread.ensures.place, unread_most a.n c.requires.0))

@@ -19,9 +19,9 @@ use Rattle.stabilize_at.proofs.from_predecessor.Goals as goal
 
 pub returns-in_default : goal.returns-in_default
 returns-in_default c =
-    let waiting : is_pending (view (get_or c.args.t.now 0 0) c.args.t2) ≡ true = eq-eqb _ _ c.requires.pending_value in
+    let waiting : is_pending (view (get_or c.args.t.now 0 0) c.args.m) ≡ true = eq-eqb _ _ c.requires.pending_value in
     let ws = c.args.t.now in
-    let m = c.args.t2 in
+    let m = c.args.m in
     let r = get_or ws 0 0 in
     let dead = (missing ws m.candidate _ (sym c.in_default.is ∙ c.locate.ensures)).0 in
     let head = sym (get_or-take r m.successors 0 0 c.requires.formed_words.r_low) in
@@ -32,15 +32,15 @@ returns-in_default c =
 
 pub member_at-s-requires : goal.member_at-s-requires
 member_at-s-requires c =
-    let stands : let a = c.args in Stands a.t.now c.in-Here.k a.t2.candidate = here c.args.t.now c.args.t2.candidate _ c.requires.formed_words (sym c.in-Here.is ∙ c.locate.ensures) in
-    (search rules, stands.within)
+    let stands : let a = c.args in Stands a.t.now c.in-Here.k a.m.candidate = here c.args.t.now c.args.m.candidate _ c.requires.formed_words (sym c.in-Here.is ∙ c.locate.ensures) in
+    record { formed_words = search rules; k_bound = stands.within }
 
 pub returns : goal.returns
 returns c =
-    let waiting : is_pending (view (get_or c.args.t.now 0 0) c.args.t2) ≡ true = eq-eqb _ _ c.requires.pending_value in
-    let stands : let a = c.args in Stands a.t.now c.in-Here.k a.t2.candidate = here c.args.t.now c.args.t2.candidate _ c.requires.formed_words (sym c.in-Here.is ∙ c.locate.ensures) in
+    let waiting : is_pending (view (get_or c.args.t.now 0 0) c.args.m) ≡ true = eq-eqb _ _ c.requires.pending_value in
+    let stands : let a = c.args in Stands a.t.now c.in-Here.k a.m.candidate = here c.args.t.now c.args.m.candidate _ c.requires.formed_words (sym c.in-Here.is ∙ c.locate.ensures) in
     let ws = c.args.t.now in
-    let m = c.args.t2 in
+    let m = c.args.m in
     let r = get_or ws 0 0 in
     let live = stands_live c.requires.formed_words stands in
     record {

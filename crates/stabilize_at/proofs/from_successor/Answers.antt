@@ -15,13 +15,13 @@ use Rattle.stabilize_at.proofs.from_successor.Goals as goal
 
 pub returns-then-between : goal.returns-then-between
 returns-then-between c =
-    let head : get_or c.args.t2.successors 0 0 ≡ successor (view (get_or c.args.t.now 0 0) c.args.t2) = sym (get_or-take (get_or c.args.t.now 0 0) c.args.t2.successors 0 0 c.requires.formed_words.r_low) in
-    let idle : is_pending (view (get_or c.args.t.now 0 0) c.args.t2) ≡ false = ne_eqb _ _ c.requires.fact.0 in
-    let alive : live (members_in c.args.t.now) (get_or c.args.t2.successors 0 0) ≡ true = stands_live c.requires.formed_words c.requires.fact.1 in
-    let found : let a = c.args in view (get_or a.t.now 0 0) c.member_at-s.result ≡ named (members_in a.t.now) (get_or a.t2.successors 0 0) = c.member_at-s.ensures ∙ stands_named c.requires.formed_words c.requires.fact.1 in
+    let head : get_or c.args.m.successors 0 0 ≡ successor (view (get_or c.args.t.now 0 0) c.args.m) = sym (get_or-take (get_or c.args.t.now 0 0) c.args.m.successors 0 0 c.requires.formed_words.r_low) in
+    let idle : is_pending (view (get_or c.args.t.now 0 0) c.args.m) ≡ false = ne_eqb _ _ c.requires.fact.0 in
+    let alive : live (members_in c.args.t.now) (get_or c.args.m.successors 0 0) ≡ true = stands_live c.requires.formed_words c.requires.fact.1 in
+    let found : let a = c.args in view (get_or a.t.now 0 0) c.member_at-s.result ≡ named (members_in a.t.now) (get_or a.m.successors 0 0) = c.member_at-s.ensures ∙ stands_named c.requires.formed_words c.requires.fact.1 in
     let ms = members_in c.args.t.now in
     let r = get_or c.args.t.now 0 0 in
-    let v = view r c.args.t2 in
+    let v = view r c.args.m in
     let w = view r c.member_at-s.result in
     let t = sym c.between.ensures ∙ c.if-between.true in
     record {
@@ -32,13 +32,13 @@ returns-then-between c =
 
 pub returns : goal.returns
 returns c =
-    let head : get_or c.args.t2.successors 0 0 ≡ successor (view (get_or c.args.t.now 0 0) c.args.t2) = sym (get_or-take (get_or c.args.t.now 0 0) c.args.t2.successors 0 0 c.requires.formed_words.r_low) in
-    let idle : is_pending (view (get_or c.args.t.now 0 0) c.args.t2) ≡ false = ne_eqb _ _ c.requires.fact.0 in
-    let alive : live (members_in c.args.t.now) (get_or c.args.t2.successors 0 0) ≡ true = stands_live c.requires.formed_words c.requires.fact.1 in
-    let found : let a = c.args in view (get_or a.t.now 0 0) c.member_at-s.result ≡ named (members_in a.t.now) (get_or a.t2.successors 0 0) = c.member_at-s.ensures ∙ stands_named c.requires.formed_words c.requires.fact.1 in
+    let head : get_or c.args.m.successors 0 0 ≡ successor (view (get_or c.args.t.now 0 0) c.args.m) = sym (get_or-take (get_or c.args.t.now 0 0) c.args.m.successors 0 0 c.requires.formed_words.r_low) in
+    let idle : is_pending (view (get_or c.args.t.now 0 0) c.args.m) ≡ false = ne_eqb _ _ c.requires.fact.0 in
+    let alive : live (members_in c.args.t.now) (get_or c.args.m.successors 0 0) ≡ true = stands_live c.requires.formed_words c.requires.fact.1 in
+    let found : let a = c.args in view (get_or a.t.now 0 0) c.member_at-s.result ≡ named (members_in a.t.now) (get_or a.m.successors 0 0) = c.member_at-s.ensures ∙ stands_named c.requires.formed_words c.requires.fact.1 in
     let ms = members_in c.args.t.now in
     let r = get_or c.args.t.now 0 0 in
-    let v = view r c.args.t2 in
+    let v = view r c.args.m in
     let w = view r c.member_at-s.result in
     let t = sym c.between.ensures ∙ c.if-between.false in
     record {

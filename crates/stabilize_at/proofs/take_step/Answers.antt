@@ -18,7 +18,7 @@ use Rattle.stabilize_at.proofs.take_step.Goals as goal
 pub returns-in_default : goal.returns-in_default
 returns-in_default c =
     let ws = c.args.t.now in
-    let m = c.args.t2 in
+    let m = c.args.m in
     let r = get_or ws 0 0 in
     let idle = ne_eqb _ _ c.if-m-eq1.false in
     let dead = ap (live (members_in ws)) (get_or-take r m.successors 0 0 c.requires.r_low) ∙ (missing ws (get_or m.successors 0 0) _ (sym c.in_default.is ∙ c.locate.ensures)).0 in
@@ -28,4 +28,4 @@ returns-in_default c =
     }
 
 pub from_successor-requires : goal.from_successor-requires
-from_successor-requires c = record { formed_words = search rules; fact = (c.if-m-eq1.false, here c.args.t.now (get_or c.args.t2.successors 0 0) _ c.requires (sym c.in-Here.is ∙ c.locate.ensures)) }
+from_successor-requires c = record { formed_words = search rules; fact = (c.if-m-eq1.false, here c.args.t.now (get_or c.args.m.successors 0 0) _ c.requires (sym c.in-Here.is ∙ c.locate.ensures)) }
