@@ -13,7 +13,7 @@ bounds-t-at c =
     let f = fits in omega arith
 
 pub returns-then-t-at : goal.returns-then-t-at
-returns-then-t-at c = wrong_below c.args.t.now c.args.k c.offset-at.result c.requires.k_bound c.offset-at.ensures.0 d.id-Below.result d.id-Below.ensures c.if-t-at.true
+returns-then-t-at c = wrong_below c.args.t.now c.args.k c.offset-at.result c.requires.k_bound c.offset-at.ensures.0 c.id_below.result c.id_below.ensures c.if-t-at.true
 
 pub slice_bounds-names_next-end : goal.slice_bounds-names_next-end
 slice_bounds-names_next-end c =
@@ -25,5 +25,5 @@ returns c =
     let fits : c.offset-at.result + record_size (get_or c.args.t.now 0 0) ≤ length c.args.t.now = record_fits c.args.t.now c.args.k c.offset-at.result c.requires.k_bound c.offset-at.ensures.0 c.requires.formed_words in
     let ws = c.args.t.now in
     let f = fits in
-    by_list ws c.args.k c.offset-at.result c.requires.k_bound c.offset-at.ensures.0 d.id-Below.result d.id-Below.ensures _ c.names_next.result c.if-t-at.false
+    by_list ws c.args.k c.offset-at.result c.requires.k_bound c.offset-at.ensures.0 c.id_below.result c.id_below.ensures _ c.names_next.result c.if-t-at.false
     (list_at ws c.args.k c.offset-at.result c.requires.k_bound c.offset-at.ensures.0) (simp (length-take, length-drop) (omega arith)) c.names_next.ensures
