@@ -126,5 +126,5 @@ first_ahead ws m r l = go (less? (least week ws m) week) (least_some m week ws)
 
     go : (least week ws m < week) ⊎ (week ≤ least week ws m) → (least week ws m ≡ week) ⊎ Some m (least week ws m) ws → FirstAhead ws m (least week ws m)
     go (inl h) (inl e) = absurd (omega arith)
-    go (inl h) (inr (w, i, e)) = sometime h (record { is_open = rw e (in_any (in_window (of_week (m + ahead_of m w))) i (one w i).is_open); none_before = before_it })
+    go (inl h) (inr (w, i, e)) = sometime h (record { open_there = rw e (in_any (in_window (of_week (m + ahead_of m w))) i (one w i).is_open); none_before = before_it })
     go (inr h) s = never (omega (arith, least_first m week ws)) (λ j k. before_it j (omega arith))

@@ -4,13 +4,7 @@ use Rattle.line.proofs.Parts.{asked_is, asked_not}
 use Rattle.line.proofs.asked.Goals as goal
 
 pub returns-then-takes : goal.returns-then-takes
-returns-then-takes c =
-    let n = c.ns-1.given in
-    let w = c.f-1.given in
-    asked_is w.0.0 n.0.0 w.1 n.1 (sym c.takes.ensures ∙ c.if-takes.true)
+returns-then-takes c = asked_is c.in-Is.w c.in-Kept.n c.in-Is.is c.in-Kept.is (sym c.takes.ensures ∙ c.if-takes.true)
 
 pub returns : goal.returns
-returns c =
-    let n = c.ns-1.given in
-    let w = c.f-1.given in
-    asked_not w.0.0 n.0.0 w.1 n.1 (sym c.takes.ensures ∙ c.if-takes.false)
+returns c = asked_not c.in-Is.w c.in-Kept.n c.in-Is.is c.in-Kept.is (sym c.takes.ensures ∙ c.if-takes.false)

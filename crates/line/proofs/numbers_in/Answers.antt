@@ -22,9 +22,9 @@ loop-p-preserved c =
     let e = c.keep-n in
     let k = c.loop-p in (
       e.ensures.0,
-      e.auto.0 ∙ k.invariant.1,
+      e.auto.xs ∙ k.invariant.1,
       go_on k.p.now c.until-k.result (take k.n k.xs) c.loop-p-test.true
-          c.until-k.ensures.0 c.in-Value.v (take e.result e.new.0) e.ensures.1 (sym c.in-Value.is ∙ c.number_in.ensures) ∙ k.invariant.2,
+          c.until-k.ensures.0 c.in-Value.v (take e.result e.new.xs) e.ensures.1 (sym c.in-Value.is ∙ c.number_in.ensures) ∙ k.invariant.2,
     )
 
 pub returns : goal.returns

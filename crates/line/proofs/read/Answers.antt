@@ -5,6 +5,6 @@ use Rattle.line.proofs.read.Goals as goal
 
 pub returns : goal.returns
 returns c =
-    read_line c.args.l.now c.until-k.result c.word-f.result c.numbers_in-ns.result c.numbers_in-ns.new.xs.0 c.asked.result
-    c.until-k.ensures.0 (c.numbers_in-ns.auto.1.0 ∙ c.requires) c.word-f.ensures c.numbers_in-ns.ensures.0 c.numbers_in-ns.ensures.1
+    read_line c.args.l.now c.until-k.result c.word-f.result c.numbers_in-ns.result c.numbers_in-ns.new.xs c.asked.result
+    c.until-k.ensures.0 (c.numbers_in-ns.auto.xs ∙ c.requires) c.word-f.ensures c.numbers_in-ns.ensures.0 c.numbers_in-ns.ensures.1
     c.asked.ensures

@@ -1,5 +1,4 @@
 -- `bytes` meets its contract. The invariant: the bytes from place i on, still to be written, give the whole. Assumes nothing.
-use Prim.Native.Nat.{◌-◌}
 use mathlib.Core.Path.{refl, sym, ◌∙◌}
 use native.Mathlib.Nat.{add-zero}
 use lib.ListN.{length-set}

@@ -26,7 +26,7 @@ unfolding answeredOf
 answer-k-requires c =
     let after-number : c.number-i.result + length (word_text c.args.w ++ (answer_text c.args.w (unpacked c.args.a) ++ (10 ∷ []))) ≤ length c.number-i.new.out = room_then (digits c.args.n) _ c.args.out.now c.number-i.new.out c.args.at c.number-i.result c.requires.1 c.number-i.ensures in
     let after-word : let a = c.args in c.word-j.result + length (answer_text a.w (unpacked a.a) ++ (10 ∷ [])) ≤ length c.word-j.new.out = (
-        let a = c.args in
+    let a = c.args in
     room_then (word_text a.w) _ c.number-i.new.out c.word-j.new.out c.number-i.result c.word-j.result after-number c.word-j.ensures) in
     (c.requires.0, room_first (answer_text c.args.w (unpacked c.args.a)) (10 ∷ []) c.word-j.result _ after-word)
 
@@ -35,7 +35,7 @@ unfolding answeredOf
 bytes-requires c =
     let after-number : c.number-i.result + length (word_text c.args.w ++ (answer_text c.args.w (unpacked c.args.a) ++ (10 ∷ []))) ≤ length c.number-i.new.out = room_then (digits c.args.n) _ c.args.out.now c.number-i.new.out c.args.at c.number-i.result c.requires.1 c.number-i.ensures in
     let after-word : let a = c.args in c.word-j.result + length (answer_text a.w (unpacked a.a) ++ (10 ∷ [])) ≤ length c.word-j.new.out = (
-        let a = c.args in
+    let a = c.args in
     room_then (word_text a.w) _ c.number-i.new.out c.word-j.new.out c.number-i.result c.word-j.result after-number c.word-j.ensures) in
     let a = c.args in
     room_then (answer_text a.w (unpacked a.a)) (10 ∷ []) _ _ c.word-j.result c.answer-k.result after-word c.answer-k.ensures

@@ -9,7 +9,7 @@ use Rattle.text.proofs.no.Goals as goal
 pub number-m-requires : goal.number-m-requires
 number-m-requires c =
     let room : c.bytes-k.result + length (digits c.args.number ++ numbers_text c.args.vs.now) ≤ length c.bytes-k.new.out = (
-        room_then (32 ∷ 110 ∷ 111 ∷ 32 ∷ []) (digits c.args.number ++ numbers_text c.args.vs.now) c.args.out.now c.bytes-k.new.out c.args.at
+    room_then (32 ∷ 110 ∷ 111 ∷ 32 ∷ []) (digits c.args.number ++ numbers_text c.args.vs.now) c.args.out.now c.bytes-k.new.out c.args.at
     c.bytes-k.result c.requires c.bytes-k.ensures) in
     let a = c.args in
     room_first (digits a.number) (numbers_text a.vs.now) c.bytes-k.result _ room
@@ -17,7 +17,7 @@ number-m-requires c =
 pub numbers-requires : goal.numbers-requires
 numbers-requires c =
     let room : c.bytes-k.result + length (digits c.args.number ++ numbers_text c.args.vs.now) ≤ length c.bytes-k.new.out = (
-        room_then (32 ∷ 110 ∷ 111 ∷ 32 ∷ []) (digits c.args.number ++ numbers_text c.args.vs.now) c.args.out.now c.bytes-k.new.out c.args.at
+    room_then (32 ∷ 110 ∷ 111 ∷ 32 ∷ []) (digits c.args.number ++ numbers_text c.args.vs.now) c.args.out.now c.bytes-k.new.out c.args.at
     c.bytes-k.result c.requires c.bytes-k.ensures) in
     let a = c.args in
     room_then (digits a.number) (numbers_text a.vs.now) _ _ c.bytes-k.result c.number-m.result room c.number-m.ensures

@@ -1,5 +1,5 @@
 -- `is_open_at` meets its contract. The invariant: one that held it was found, or one from place i on holds it, just if one of all does. Assumes nothing.
-use Rattle.std.proofs.Common.{◌-◌, sym, refl, ◌∙◌, arith, rules}
+use Rattle.std.proofs.Common.{sym, refl, ◌∙◌, arith, rules}
 use Rattle.windows.proofs.Words.{found_on, found_here, found_end}
 use Rattle.windows.proofs.is_open_at.Goals as goal
 

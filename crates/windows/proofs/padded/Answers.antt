@@ -1,5 +1,5 @@
 -- `padded` meets its contract. The invariant: the first i words are there, and zeros after them. Assumes nothing.
-use Rattle.std.proofs.Common.{ℕ, ◌-◌, List, get_or, set, refl, ap, ◌∙◌, rules}
+use Rattle.std.proofs.Common.{ℕ, List, get_or, set, refl, ap, ◌∙◌, rules}
 use Rattle.windows.proofs.Zeros.{filled_on, filled_all}
 use Rattle.windows.proofs.padded.Goals as goal
 
