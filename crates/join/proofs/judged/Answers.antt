@@ -32,7 +32,7 @@ member_at-m-requires c =
     let table : FormedWords c.args.t.now = formed_words _ good in
     let stands : let a = c.args in Stands a.t.now c.in-Here.k a.p = (
         let a = c.args in here a.t.now a.p _ table (sym c.in-Here.is ∙ c.locate-then-well_formed.ensures)) in
-    (table, stands.within)
+    record { formed_words = table; k_bound = stands.within }
 
 pub locate-requires-then-between : goal.locate-requires-then-between
 locate-requires-then-between c =

@@ -11,4 +11,4 @@ returns-then-a-k-gt0 c =
 pub way_from-way-requires : goal.way_from-way-requires
 way_from-way-requires c =
     let p = c.requires in
-    (p.0, (p.1.0, (p.1.1.0, (p.1.1.1, omega (arith, c.if-a-k-gt0.false)))))
+    record { formed_words = p.formed_words; best_places = p.best_places; all_so_far = p.all_so_far; k_bound = (p.k_bound, omega (arith, c.if-a-k-gt0.false)) }

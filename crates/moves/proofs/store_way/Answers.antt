@@ -64,7 +64,5 @@ loop-left-preserved c =
 
 pub returns : goal.returns
 returns c =
-    let here : let ws = c.args.t.now in let l = c.loop-left in (l.y < get_or ws 1 0) × (moves_at ws l.y ≡ no_more (c.args.way.value + l.left) (get_or ws 1 0)) × Along ws c.args.way.value (l.left - 1) (next_place (members_in ws) l.y) = (
-        let l = c.loop-left in along c.args.t.now c.args.way.value l.left l.y c.loop-left-test.true l.invariant.2) in
     let l = c.loop-left in
     record { so_far = l.invariant.1; here = l.invariant.4 (omega (arith, c.requires.measured.some)) }
