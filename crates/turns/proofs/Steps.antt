@@ -27,12 +27,10 @@ use Rattle.table.proofs.Place.{same_words, stands_live}
 use Rattle.turns.proofs.Lasting.{stands_in, lasting_none, stands_still, written_still, Next, lasting_next}
 
 -- a step that is not "done"
-first_value : (a : Step) → OneOf (0 ∷ 1 ∷ 3 ∷ []) (tag_of S.the_type a) → eqb (get_or (answer_of a).values 0 0) 2 ≡ false
+first_value : (a : Step) → ((h : ℕ) → a ≡ Done h → ⊥) → eqb (get_or (answer_of a).values 0 0) 2 ≡ false
 first_value Again o = refl
 first_value (Look c) o = refl
-first_value (Done h) (inl e) = absurd (omega (arith, e))
-first_value (Done h) (inr (inl e)) = absurd (omega (arith, e))
-first_value (Done h) (inr (inr e)) = absurd (omega (arith, e))
+first_value (Done h) o = absurd (o h refl)
 first_value (Declined k) o = refl
 
 -- a notice of q to h, which is no member, or is one
@@ -63,7 +61,7 @@ module _ (ws : List ℕ) (f : FormedWords ws) where
       says : (answer_of a).values ≡ next_reply n (table_of ws)
       says = ap (λ (x : Answer). x.values) e ∙ ap (λ (x : ℕ). next_reply x (table_of ws)) s.has_id
 
-      pub not_done : OneOf (0 ∷ 1 ∷ 3 ∷ []) (tag_of S.the_type a) → is_done n (table_of ws) ≡ false
+      pub not_done : ((h : ℕ) → a ≡ Done h → ⊥) → is_done n (table_of ws) ≡ false
       not_done o = ap (λ (l : List ℕ). eqb (get_or l 0 0) 2) (sym says) ∙ first_value a o
 
       pub is_done_law : (h : ℕ) → a ≡ Done h → next_reply n (table_of ws) ≡ 2 ∷ h ∷ []

@@ -12,28 +12,28 @@ use Rattle.alike.proofs.alike.Goals as goal
 
 pub tables_alike-requires : goal.tables_alike-requires
 tables_alike-requires c =
-    let first : well_formed c.args.us.now ≡ true = sym c.is_well_formed.ensures ∙ c.if-well_formed.true in
-    let second : well_formed c.args.vs.now ≡ true = sym c.well_formed-2.ensures ∙ c.if-well_formed-2.true in
+    let first : well_formed c.args.us.now ≡ true = sym c.well_formed-2.ensures ∙ c.if-well_formed.true in
+    let second : well_formed c.args.vs.now ≡ true = sym c.well_formed-then-well_formed.ensures ∙ c.if-well_formed-2.true in
     record { formed_words = formed_words _ first; formed_words_2 = formed_words _ second }
 
 pub returns-then-tables_alike : goal.returns-then-tables_alike
 unfolding alike_answer alike_refusal
 returns-then-tables_alike c =
-    let first : well_formed c.args.us.now ≡ true = sym c.is_well_formed.ensures ∙ c.if-well_formed.true in
-    let second : well_formed c.args.vs.now ≡ true = sym c.well_formed-2.ensures ∙ c.if-well_formed-2.true in
+    let first : well_formed c.args.us.now ≡ true = sym c.well_formed-2.ensures ∙ c.if-well_formed.true in
+    let second : well_formed c.args.vs.now ≡ true = sym c.well_formed-then-well_formed.ensures ∙ c.if-well_formed-2.true in
     rw (first, second) (ap (λ (b : Bool). accepted (bit b ∷ [])) (sym c.if-tables_alike.true ∙ c.tables_alike.ensures))
 
 pub returns-then-well_formed-2 : goal.returns-then-well_formed-2
 unfolding alike_answer alike_refusal
 returns-then-well_formed-2 c =
-    let first : well_formed c.args.us.now ≡ true = sym c.is_well_formed.ensures ∙ c.if-well_formed.true in
-    let second : well_formed c.args.vs.now ≡ true = sym c.well_formed-2.ensures ∙ c.if-well_formed-2.true in
+    let first : well_formed c.args.us.now ≡ true = sym c.well_formed-2.ensures ∙ c.if-well_formed.true in
+    let second : well_formed c.args.vs.now ≡ true = sym c.well_formed-then-well_formed.ensures ∙ c.if-well_formed-2.true in
     rw (first, second) (ap (λ (b : Bool). accepted (bit b ∷ [])) (sym c.if-tables_alike.false ∙ c.tables_alike.ensures))
 
 pub returns-else-well_formed-2 : goal.returns-else-well_formed-2
 unfolding alike_answer alike_refusal
-returns-else-well_formed-2 c = rw (sym c.well_formed-2.ensures ∙ c.if-well_formed-2.false, and-false)
+returns-else-well_formed-2 c = rw (sym c.well_formed-then-well_formed.ensures ∙ c.if-well_formed-2.false, and-false)
 
 pub returns-else-well_formed : goal.returns-else-well_formed
 unfolding alike_answer alike_refusal
-returns-else-well_formed c = rw (sym c.is_well_formed.ensures ∙ c.if-well_formed.false)
+returns-else-well_formed c = rw (sym c.well_formed-2.ensures ∙ c.if-well_formed.false)

@@ -11,7 +11,7 @@ pub loop-left-init : goal.loop-left-init
 loop-left-init c = let a = c.args in let n : ℕ = get_or a.t.now 1 0 in (omega arith, omega arith, all_pairs a.t.now a.x (n - n) (omega arith))
 
 pub pairs_before-before-requires : goal.pairs_before-before-requires
-pairs_before-before-requires c = (c.requires, omega (arith, c.loop-left-test.true, c.loop-left.invariant.0))
+pairs_before-before-requires c = record { formed_words = c.requires; k_bound = omega (arith, c.loop-left-test.true, c.loop-left.invariant.0) }
 
 pub returns-then-before-r : goal.returns-then-before-r
 returns-then-before-r c =

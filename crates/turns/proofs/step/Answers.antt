@@ -26,7 +26,7 @@ pub returns-in_default : goal.returns-in_default
 returns-in_default c =
     let left : let a = c.args in c.stabilize_at.new.t ≡ written (stabilized a.n (table_of a.t.now)) a.t.now = step_words c.args.t.now (good_formed c.requires.good) c.args.k c.args.n c.requires.stands _ c.stabilize_at.ensures.1 in
     told c.args.t.now c.args.n false _ (not_done c.args.t.now (good_formed c.requires.good) c.args.k c.args.n c.requires.stands
-    c.stabilize_at.result c.stabilize_at.ensures.0 c.in-Done.keys2) left
+    c.stabilize_at.result c.stabilize_at.ensures.0 c.in_default.not-Done) left
 
 pub deliver-requires : goal.deliver-requires
 deliver-requires c =

@@ -12,7 +12,7 @@ use Rattle.turns.proofs.Turns.{finished_next, turned}
 use Rattle.turns.proofs.turn_at.Goals as goal
 
 pub word_at-n-requires : goal.word_at-n-requires
-word_at-n-requires c = (good_formed c.requires.good, (c.requires.k_bound, omega arith))
+word_at-n-requires c = record { formed_words = good_formed c.requires.good; k_bound = (c.requires.k_bound, omega arith) }
 
 pub finish_pending-requires : goal.finish_pending-requires
 finish_pending-requires c =
