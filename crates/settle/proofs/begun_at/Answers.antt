@@ -10,27 +10,27 @@ use Rattle.settle.proofs.Laws.{no_table_at, bad_windows_law, bad_minutes_law}
 use Rattle.settle.proofs.begun_at.Goals as goal
 
 pub returns-then-not-well_formed : goal.returns-then-not-well_formed
-returns-then-not-well_formed c = no_table_at _ _ _ (sym c.well_formed-2.ensures ∙ not-true _ c.if-not-well_formed.true)
+returns-then-not-well_formed c = no_table_at _ _ _ (sym c.well_formed-2.ensures ∙ c.if-not-well_formed.true)
 
 pub returns-then-not-are_windows : goal.returns-then-not-are_windows
 returns-then-not-are_windows c =
-    let formed : well_formed c.args.t.now ≡ true = sym c.well_formed-2.ensures ∙ not-false _ c.if-not-well_formed.false in
-    bad_windows_law _ _ _ formed (not-false _ (sym c.are_windows.ensures ∙ not-true _ c.if-not-are_windows.true))
+    let formed : well_formed c.args.t.now ≡ true = sym c.well_formed-2.ensures ∙ c.if-not-well_formed.false in
+    bad_windows_law _ _ _ formed (not-false _ (sym c.are_windows.ensures ∙ c.if-not-are_windows.true))
 
 pub returns-then-not-are_minutes : goal.returns-then-not-are_minutes
 returns-then-not-are_minutes c =
-    let formed : well_formed c.args.t.now ≡ true = sym c.well_formed-2.ensures ∙ not-false _ c.if-not-well_formed.false in
-    let right_windows : bad_windows c.args.ws.now ≡ false = not-true _ (sym c.are_windows.ensures ∙ not-false _ c.if-not-are_windows.false) in
-    bad_minutes_law _ _ _ formed right_windows (not-false _ (sym c.are_minutes.ensures ∙ not-true _ c.if-not-are_minutes.true))
+    let formed : well_formed c.args.t.now ≡ true = sym c.well_formed-2.ensures ∙ c.if-not-well_formed.false in
+    let right_windows : bad_windows c.args.ws.now ≡ false = not-true _ (sym c.are_windows.ensures ∙ c.if-not-are_windows.false) in
+    bad_minutes_law _ _ _ formed right_windows (not-false _ (sym c.are_minutes.ensures ∙ c.if-not-are_minutes.true))
 
 pub begun_formed-requires : goal.begun_formed-requires
 begun_formed-requires c =
-    let formed : well_formed c.args.t.now ≡ true = sym c.well_formed-2.ensures ∙ not-false _ c.if-not-well_formed.false in
+    let formed : well_formed c.args.t.now ≡ true = sym c.well_formed-2.ensures ∙ c.if-not-well_formed.false in
     formed_words _ formed
 
 pub returns : goal.returns
 returns c =
-    let right_windows : bad_windows c.args.ws.now ≡ false = not-true _ (sym c.are_windows.ensures ∙ not-false _ c.if-not-are_windows.false) in
-    let right-minutes : bad_minutes c.args.ts.now ≡ false = not-true _ (sym c.are_minutes.ensures ∙ not-false _ c.if-not-are_minutes.false) in
+    let right_windows : bad_windows c.args.ws.now ≡ false = not-true _ (sym c.are_windows.ensures ∙ c.if-not-are_windows.false) in
+    let right-minutes : bad_minutes c.args.ts.now ≡ false = not-true _ (sym c.are_minutes.ensures ∙ c.if-not-are_minutes.false) in
     let a = c.args in
     rw (settle_at_left a.t.now a.ws.now a.ts.now right_windows right-minutes) c.begun_formed.ensures

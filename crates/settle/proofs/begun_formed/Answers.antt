@@ -15,7 +15,7 @@ pub returns : goal.returns
 returns c = not_sound _ c.requires.right (sym c.is_sound.ensures ∙ c.if-is_sound.false)
 
 pub fill_best-passed-requires : goal.fill_best-passed-requires
-fill_best-passed-requires c = (c.requires, search rules)
+fill_best-passed-requires c = record { formed_words = c.requires; best_len = search rules }
 
 pub count_principals-count-requires : goal.count_principals-count-requires
 count_principals-count-requires c = c.requires
