@@ -1,5 +1,4 @@
--- Records as findings are written over them: what a survey has for each, that they stay as many, and that at the end they are what the model says.
--- Assumes nothing.
+-- Records as findings are written over them: at the end they are what the model says. Assumes nothing.
 use Prim.Native.Nat.{ℕ, zero, suc, ◌≤◌, ◌<◌}
 use mathlib.Core.Path.{◌≡◌, refl, sym, ap, ◌∙◌}
 use mathlib.Core.List.{List, [], ◌∷◌, ◌++◌, append_assoc}
@@ -7,11 +6,10 @@ use mathlib.Core.Bool.{not}
 use native.Mathlib.Omega.{arith}
 use borrow.Author.Tests.{ltb-false}
 use lib.Dec.{ltb}
-use lib.ListN.{length, get_or, take, drop, set, length-set, length-map, get_or-map}
+use lib.ListN.{length, get_or, take, drop, set, length-map, get_or-map}
 use lib.Seq.{take-suc, take-length, drop-cons, length-take-le, set_at}
 use Rattle.model.specs.Lists.{overlay}
 use Rattle.model.specs.Table.{Member, members_in, table_of, ids, well_formed}
-use Rattle.model.specs.Ring.{moves_to_ring}
 use Rattle.model.specs.Findings.{Finding as FindingOf, finding_of, findings}
 use Rattle.model.specs.Answer.{Answer, accepted, answer, afterwards}
 use Rattle.model.specs.Steps.{audit_reply}
@@ -19,31 +17,10 @@ use Rattle.model.specs.Refusals.{findings_refusal}
 use Rattle.model.specs.Calls.{findings_answer, findings_after}
 use Rattle.laws.specs.Lists.{length_ids}
 use Rattle.laws.specs.Accepted.{none_applies}
-use Rattle.table.specs.FormedWords.{FormedWords}
-use Rattle.principal.specs.Marks.{principal_bit}
 use Rattle.finding.specs.declared.Finding.{Finding}
 use Rattle.finding.specs.View.{view, views}
-use Rattle.finding.specs.declared.Survey.{Survey}
-use Rattle.finding.specs.Survey.{Surveyed, to_write}
-use Rattle.findings.specs.Filled.{as_record, record_at, filled}
-
--- what `finding_at` asks of place k and of the two numbers there
-abbrev pub Asked : List ℕ → ℕ → ℕ → ℕ → Type 0
-Asked ws principal moves k = FormedWords ws × (k < get_or ws 1 0) × (principal ≡ principal_bit (members_in ws) (get_or (ids (members_in ws)) k 0))
-    × (moves ≡ moves_to_ring (members_in ws) (get_or (ids (members_in ws)) k 0))
-
--- a survey has it for each member that it counts
-pub surveyed_at : (ws : List ℕ) (s : Survey) → Surveyed ws s → (k : ℕ) → k < s.members → Asked ws (get_or s.principal k 0) (get_or s.moves k 0) k
-surveyed_at ws s e k h = (e.table (omega arith), omega (arith, e.most), e.principals.at k h, e.ways.at k h)
-
--- a record is known by its view
-pub by_view : (f : Finding) (g : FindingOf) → view f ≡ g → f ≡ as_record g
-by_view f g e = ap as_record e
-
--- writing leaves the length
-pub filled_length : (ms : List Member) (ys : List Finding) (n : ℕ) → length (filled ms n ys) ≡ length ys
-filled_length ms ys zero = refl
-filled_length ms ys (suc n) = length-set (filled ms n ys) n (record_at ms n) ∙ filled_length ms ys n
+use Rattle.finding.specs.Survey.{to_write}
+use Rattle.findings.specs.Filled.{record_at, filled}
 
 views_set : (fs : List Finding) (k : ℕ) (f : Finding) → views (set fs k f) ≡ set (views fs) k (view f)
 views_set [] k f = refl

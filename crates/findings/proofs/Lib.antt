@@ -1,4 +1,2 @@
--- Laws and names that the walks of this crate cite.
+-- Laws that the proofs of this crate cite.
 pub mod Filling
-pub mod Slots
-pub mod Rows

@@ -1,6 +1,5 @@
 // Reading an image field by field: a reader that holds the image and its position, and hands out one field a call.
-// The borrow checker covers no function over such a struct: `new`, `contents` and `pull` are proved by hand,
-// and leave all tests to `due::field_at`, `next_of` and `part_of`.
+// All tests are left to `due::field_at`, `next_of` and `part_of`.
 #![tactic(auto)]
 
 ghost use Rattle.std.specs.Prelude.{◌≡◌};

@@ -33,7 +33,7 @@ pub returns-then-o-all : goal.returns-then-o-all
 returns-then-o-all c =
     let sized : c.field_size-w.result ≡ field_size c.image_r-r.result = c.field_size-w.ensures c.image_r-r.result c.record_size.ensures in
     let known : let a = c.args in Behind a.image.now a.at (c.image_count.result * c.field_size-w.result) c.field_size-w.result = (
-        let w : c.field_size-w.result ≡ field_size (image_r c.args.image.now) = sized ∙ ap field_size c.image_r-r.ensures.0 in
+    let w : c.field_size-w.result ≡ field_size (image_r c.args.image.now) = sized ∙ ap field_size c.image_r-r.ensures.0 in
     record {
       some_way = c.if-at-eq0.false;
       past_first = c.if-at-lt-MEMBERS.false;
@@ -48,7 +48,7 @@ pub returns-then-all-o : goal.returns-then-all-o
 returns-then-all-o c =
     let sized : c.field_size-w.result ≡ field_size c.image_r-r.result = c.field_size-w.ensures c.image_r-r.result c.record_size.ensures in
     let known : let a = c.args in Behind a.image.now a.at (c.image_count.result * c.field_size-w.result) c.field_size-w.result = (
-        let w : c.field_size-w.result ≡ field_size (image_r c.args.image.now) = sized ∙ ap field_size c.image_r-r.ensures.0 in
+    let w : c.field_size-w.result ≡ field_size (image_r c.args.image.now) = sized ∙ ap field_size c.image_r-r.ensures.0 in
     record {
       some_way = c.if-at-eq0.false;
       past_first = c.if-at-lt-MEMBERS.false;
@@ -59,8 +59,8 @@ returns-then-all-o c =
     }) in
     too_far known c.if-all-o.true
 
-pub nonzero-rem-if7 : goal.nonzero-rem-if7
-nonzero-rem-if7 c =
+pub nonzero_rem-o : goal.nonzero_rem-o
+nonzero_rem-o c =
     let sized : c.field_size-w.result ≡ field_size c.image_r-r.result = c.field_size-w.ensures c.image_r-r.result c.record_size.ensures in
     omega (arith, sized)
 
@@ -74,7 +74,7 @@ pub returns-then-o-w-eq0 : goal.returns-then-o-w-eq0
 returns-then-o-w-eq0 c =
     let sized : c.field_size-w.result ≡ field_size c.image_r-r.result = c.field_size-w.ensures c.image_r-r.result c.record_size.ensures in
     let known : let a = c.args in Behind a.image.now a.at (c.image_count.result * c.field_size-w.result) c.field_size-w.result = (
-        let w : c.field_size-w.result ≡ field_size (image_r c.args.image.now) = sized ∙ ap field_size c.image_r-r.ensures.0 in
+    let w : c.field_size-w.result ≡ field_size (image_r c.args.image.now) = sized ∙ ap field_size c.image_r-r.ensures.0 in
     record {
       some_way = c.if-at-eq0.false;
       past_first = c.if-at-lt-MEMBERS.false;
@@ -92,7 +92,7 @@ pub returns-else-o-w-eq0 : goal.returns-else-o-w-eq0
 returns-else-o-w-eq0 c =
     let sized : c.field_size-w.result ≡ field_size c.image_r-r.result = c.field_size-w.ensures c.image_r-r.result c.record_size.ensures in
     let known : let a = c.args in Behind a.image.now a.at (c.image_count.result * c.field_size-w.result) c.field_size-w.result = (
-        let w : c.field_size-w.result ≡ field_size (image_r c.args.image.now) = sized ∙ ap field_size c.image_r-r.ensures.0 in
+    let w : c.field_size-w.result ≡ field_size (image_r c.args.image.now) = sized ∙ ap field_size c.image_r-r.ensures.0 in
     record {
       some_way = c.if-at-eq0.false;
       past_first = c.if-at-lt-MEMBERS.false;

@@ -11,7 +11,7 @@ use Rattle.finding.proofs.survey_of.Goals as goal
 pub verdict_of-v-requires : goal.verdict_of-v-requires
 verdict_of-v-requires c =
     let counted : c.count_of-count.result ≡ principals (members_in c.args.t.now) = c.count_of-count.ensures.0 ∙ counted_principals c.args.t.now _ c.principal_bits-principal.ensures in
-    (c.requires, (c.best_places-best.ensures, counted))
+    record { formed_words = c.requires; best_places = c.best_places-best.ensures; count_value = counted }
 
 pub returns : goal.returns
 returns c =
