@@ -1,19 +1,35 @@
 // The rehearsal program: a session from standard input to standard output.
 #![tactic(auto)]
 
-use libc::{STDIN_FILENO, STDOUT_FILENO};
-use rehearsal::Outcome;
+ghost use Rattle.std.specs.Prelude.{◌≤◌, length, IfOk};
 
-fn main() {
+use rehearsal::Outcome;
+use std::io;
+use std::io::{Read, Write};
+
+// Reads until the buffer is full or the input ends: how many bytes stand at its front.
+fn read_full<R: Read>(input: &mut R, buf: &mut [u8]) -> io::Result<usize>
+    ensures { IfOk result (λ n. n ≤ length buf.new) }
+{
+    let mut at = 0;
+    while at < buf.len() {
+        let n = input.read(&mut buf[at..])?;
+        if n == 0 {
+            break;
+        }
+        at += n;
+    }
+    Ok(at)
+}
+
+fn main(rt: HostRuntime) -> io::Result<()> {
     let mut input = [0u8; 65536];
-    let n = io::read_full(STDIN_FILENO, &mut input);
+    let n = read_full(&mut rt.reader(), &mut input)?;
     let mut table = [0u32; words::LONGEST];
     table[words::R] = 1;
     let mut out = [0u8; 655370];
     match rehearsal::session(&input[..n], &mut table, &mut out) {
-        Outcome::Written(k) => {
-            io::write_all(STDOUT_FILENO, &out[..k]);
-        }
-        Outcome::TooShort => {}
+        Outcome::Written(k) => io::writer(&rt).write_all(&out[..k]),
+        Outcome::TooShort => Ok(()),
     }
 }
