@@ -4,7 +4,7 @@ use Rattle.std.proofs.Math.Option.{some}
 use Rattle.std.proofs.Common.{arith}
 use Rattle.model.specs.Lists.{if◌then◌else◌}
 use Rattle.model.specs.Table.{Member}
-use Rattle.model.specs.Ring.{Search, past, searched, first_live, live}
+use Rattle.model.specs.Ring.{past, searched, first_live, live}
 
 -- no more entries are passed over than the list has
 pub passed_most : (ms : List Member) (l : List ℕ) → (searched ms l).passed ≤ length l

@@ -91,11 +91,22 @@ case_id (drops p l) = (refl, refl, refl)
 case_id (looks p l e) = (refl, refl, refl)
 case_id (settles p l e) = (refl, refl, refl)
 
+-- the same of a step itself, whatever its reply
+either : {n : ℕ} (f : Member → ℕ) (b : Bool) {x y : Member} → f x ≡ n → f y ≡ n → f (if b then x else y) ≡ n
+either f true p q = p
+either f false p q = q
+
 pub same_id : (ms : List Member) (v : Member) (w : ℕ) → (stabilize w ms v).id ≡ v.id
-same_id ms v w = (case_id (step_case w ms v)).0
+unfolding stabilize stabilize_from_successor stabilize_from_predecessor
+same_id ms v w = either (λ u. u.id) (is_pending v) (either (λ u. u.id) (live ms v.candidate) refl refl)
+    (either (λ u. u.id) (live ms (successor v)) (either (λ u. u.id) (is_better ms v) refl refl) refl)
 
 pub same_predecessor : (ms : List Member) (v : Member) (w : ℕ) → (stabilize w ms v).predecessor ≡ v.predecessor
-same_predecessor ms v w = (case_id (step_case w ms v)).1
+unfolding stabilize stabilize_from_successor stabilize_from_predecessor
+same_predecessor ms v w = either (λ u. u.predecessor) (is_pending v) (either (λ u. u.predecessor) (live ms v.candidate) refl refl)
+    (either (λ u. u.predecessor) (live ms (successor v)) (either (λ u. u.predecessor) (is_better ms v) refl refl) refl)
 
 pub same_steps : (ms : List Member) (v : Member) (w : ℕ) → (stabilize w ms v).steps ≡ v.steps
-same_steps ms v w = (case_id (step_case w ms v)).2
+unfolding stabilize stabilize_from_successor stabilize_from_predecessor
+same_steps ms v w = either (λ u. u.steps) (is_pending v) (either (λ u. u.steps) (live ms v.candidate) refl refl)
+    (either (λ u. u.steps) (live ms (successor v)) (either (λ u. u.steps) (is_better ms v) refl refl) refl)

@@ -19,4 +19,3 @@ pub mod Calls
 pub mod Fold
 pub mod Run
 pub mod Service
-pub mod Examples
