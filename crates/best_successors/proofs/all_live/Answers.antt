@@ -1,5 +1,4 @@
 -- `all_live` meets its contract. The loop's invariant: the test of the members left is that of all. Assumes nothing.
-use Prim.Native.Nat.{◌-◌}
 use mathlib.Core.Path.{◌≡◌, ◌∙◌}
 use native.Mathlib.Omega.{arith}
 use borrow.Author.Rules.{rules}

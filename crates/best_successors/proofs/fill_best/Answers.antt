@@ -1,6 +1,5 @@
 -- `fill_best` meets its contract. The loop's invariant: the places so far are right, and what is passed over so far and from here on is the sum.
 -- Assumes nothing.
-use Prim.Native.Nat.{◌-◌}
 use native.Mathlib.Omega.{arith}
 use borrow.Author.Rules.{rules}
 use lib.ListN.{length-set}

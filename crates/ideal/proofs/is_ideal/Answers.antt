@@ -1,5 +1,4 @@
 -- `is_ideal` meets its contract. The invariant: the members from place k on answer as all do. Assumes nothing.
-use Prim.Native.Nat.{◌-◌}
 use mathlib.Core.Path.{sym, ◌∙◌}
 use native.Mathlib.Omega.{arith}
 use Rattle.ideal.proofs.Laws.{from_first, wrong_here, right_here, none_left}

@@ -1,5 +1,4 @@
 -- `all_moves` meets its contract. The loop's invariant: the numbers so far are right. Assumes nothing.
-use Prim.Native.Nat.{◌-◌}
 use native.Mathlib.Omega.{arith}
 use borrow.Author.Rules.{rules}
 use lib.ListN.{length-set}

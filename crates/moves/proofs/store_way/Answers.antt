@@ -17,31 +17,31 @@ loop-left-init c = (search rules, c.requires.all_so_far, c.requires.measured.way
 pub offset_bounds-a-y : goal.offset_bounds-a-y
 offset_bounds-a-y c =
     let here : let ws = c.args.t.now in let l = c.loop-left in (l.y < get_or ws 1 0) × (moves_at ws l.y ≡ no_more (c.args.way.value + l.left) (get_or ws 1 0)) × Along ws c.args.way.value (l.left - 1) (next_place (members_in ws) l.y) = (
-        let l = c.loop-left in along c.args.t.now c.args.way.value l.left l.y c.loop-left-test.true l.invariant.2) in
+    let l = c.loop-left in along c.args.t.now c.args.way.value l.left l.y c.loop-left-test.true l.invariant.2) in
     let h = here.0 in search rules
 
 pub offset_bounds-best-y : goal.offset_bounds-best-y
 offset_bounds-best-y c =
     let here : let ws = c.args.t.now in let l = c.loop-left in (l.y < get_or ws 1 0) × (moves_at ws l.y ≡ no_more (c.args.way.value + l.left) (get_or ws 1 0)) × Along ws c.args.way.value (l.left - 1) (next_place (members_in ws) l.y) = (
-        let l = c.loop-left in along c.args.t.now c.args.way.value l.left l.y c.loop-left-test.true l.invariant.2) in
+    let l = c.loop-left in along c.args.t.now c.args.way.value l.left l.y c.loop-left-test.true l.invariant.2) in
     let h = here.0 in search rules
 
 pub bounds-a-y : goal.bounds-a-y
 bounds-a-y c =
     let here : let ws = c.args.t.now in let l = c.loop-left in (l.y < get_or ws 1 0) × (moves_at ws l.y ≡ no_more (c.args.way.value + l.left) (get_or ws 1 0)) × Along ws c.args.way.value (l.left - 1) (next_place (members_in ws) l.y) = (
-        let l = c.loop-left in along c.args.t.now c.args.way.value l.left l.y c.loop-left-test.true l.invariant.2) in
+    let l = c.loop-left in along c.args.t.now c.args.way.value l.left l.y c.loop-left-test.true l.invariant.2) in
     let h = here.0 in search rules
 
 pub bounds-best-y : goal.bounds-best-y
 bounds-best-y c =
     let here : let ws = c.args.t.now in let l = c.loop-left in (l.y < get_or ws 1 0) × (moves_at ws l.y ≡ no_more (c.args.way.value + l.left) (get_or ws 1 0)) × Along ws c.args.way.value (l.left - 1) (next_place (members_in ws) l.y) = (
-        let l = c.loop-left in along c.args.t.now c.args.way.value l.left l.y c.loop-left-test.true l.invariant.2) in
+    let l = c.loop-left in along c.args.t.now c.args.way.value l.left l.y c.loop-left-test.true l.invariant.2) in
     let h = here.0 in search rules
 
 pub overflow_cast-y : goal.overflow_cast-y
 overflow_cast-y c =
     let here : let ws = c.args.t.now in let l = c.loop-left in (l.y < get_or ws 1 0) × (moves_at ws l.y ≡ no_more (c.args.way.value + l.left) (get_or ws 1 0)) × Along ws c.args.way.value (l.left - 1) (next_place (members_in ws) l.y) = (
-        let l = c.loop-left in along c.args.t.now c.args.way.value l.left l.y c.loop-left-test.true l.invariant.2) in
+    let l = c.loop-left in along c.args.t.now c.args.way.value l.left l.y c.loop-left-test.true l.invariant.2) in
     let entry : get_or c.args.best.now c.loop-left.y 0 ≡ next_place (members_in c.args.t.now) c.loop-left.y = best_at c.args.t.now c.args.best.now c.requires.best_places c.loop-left.y here.0 in
     let few : get_or c.args.best.now c.loop-left.y 0 ≤ 256 = omega (arith, best_most c.args.t.now c.loop-left.y _ here.0 entry, c.requires.formed_words.few) in
     record { fits = omega (arith, few) }
@@ -49,7 +49,7 @@ overflow_cast-y c =
 pub loop-left-preserved : goal.loop-left-preserved
 loop-left-preserved c =
     let here : let ws = c.args.t.now in let l = c.loop-left in (l.y < get_or ws 1 0) × (moves_at ws l.y ≡ no_more (c.args.way.value + l.left) (get_or ws 1 0)) × Along ws c.args.way.value (l.left - 1) (next_place (members_in ws) l.y) = (
-        let l = c.loop-left in along c.args.t.now c.args.way.value l.left l.y c.loop-left-test.true l.invariant.2) in
+    let l = c.loop-left in along c.args.t.now c.args.way.value l.left l.y c.loop-left-test.true l.invariant.2) in
     let entry : get_or c.args.best.now c.loop-left.y 0 ≡ next_place (members_in c.args.t.now) c.loop-left.y = best_at c.args.t.now c.args.best.now c.requires.best_places c.loop-left.y here.0 in
     let l = c.loop-left in
     let ws = c.args.t.now in

@@ -1,5 +1,5 @@
 -- `store_way` meets its contract. The loop's invariant: the way left is to be stored, and the first place is if any is. Assumes nothing.
-use Prim.Native.Nat.{◌+◌, ◌-◌, ◌≤◌, ◌<◌}
+use Prim.Native.Nat.{◌+◌, ◌≤◌, ◌<◌}
 use mathlib.Core.Path.{◌≡◌}
 use lib.ListN.{get_or}
 use Rattle.moves.specs.Ways.{moves_at, AllSoFar, Along}

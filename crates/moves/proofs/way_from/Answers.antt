@@ -27,7 +27,7 @@ pub returns-then-n-y : goal.returns-then-n-y
 returns-then-n-y c =
     let entry : get_or c.args.best.now c.loop-c.y 0 ≡ next_place (members_in c.args.t.now) c.loop-c.y = best_at c.args.t.now c.args.best.now c.requires.best_places c.loop-c.y c.loop-c.invariant.0 in
     let off : let ms = members_in c.args.t.now in on_ring ms (get_or (ids ms) c.loop-c.y 0) ≡ false = (
-        let l = c.loop-c in is_off c.args.t.now c.args.a.now l.y (c.requires.all_so_far.at l.y l.invariant.0) l.invariant.2) in
+    let l = c.loop-c in is_off c.args.t.now c.args.a.now l.y (c.requires.all_so_far.at l.y l.invariant.0) l.invariant.2) in
     let l = c.loop-c in
     record {
       some = omega arith;
@@ -40,9 +40,9 @@ pub returns-then-v-gt0 : goal.returns-then-v-gt0
 returns-then-v-gt0 c =
     let entry : get_or c.args.best.now c.loop-c.y 0 ≡ next_place (members_in c.args.t.now) c.loop-c.y = best_at c.args.t.now c.args.best.now c.requires.best_places c.loop-c.y c.loop-c.invariant.0 in
     let off : let ms = members_in c.args.t.now in on_ring ms (get_or (ids ms) c.loop-c.y 0) ≡ false = (
-        let l = c.loop-c in is_off c.args.t.now c.args.a.now l.y (c.requires.all_so_far.at l.y l.invariant.0) l.invariant.2) in
+    let l = c.loop-c in is_off c.args.t.now c.args.a.now l.y (c.requires.all_so_far.at l.y l.invariant.0) l.invariant.2) in
     let on : Leads c.args.t.now c.args.k (c.loop-c.c + 1) (get_or c.args.best.now c.loop-c.y 0) = (
-        let l = c.loop-c in
+    let l = c.loop-c in
     leads_on c.args.t.now c.args.k l.c l.y _ c.requires.formed_words l.invariant.0 off entry l.invariant.3 c.if-n-y.false) in
     let l = c.loop-c in
     let ws = c.args.t.now in
@@ -55,9 +55,9 @@ pub loop-c-preserved : goal.loop-c-preserved
 loop-c-preserved c =
     let entry : get_or c.args.best.now c.loop-c.y 0 ≡ next_place (members_in c.args.t.now) c.loop-c.y = best_at c.args.t.now c.args.best.now c.requires.best_places c.loop-c.y c.loop-c.invariant.0 in
     let off : let ms = members_in c.args.t.now in on_ring ms (get_or (ids ms) c.loop-c.y 0) ≡ false = (
-        let l = c.loop-c in is_off c.args.t.now c.args.a.now l.y (c.requires.all_so_far.at l.y l.invariant.0) l.invariant.2) in
+    let l = c.loop-c in is_off c.args.t.now c.args.a.now l.y (c.requires.all_so_far.at l.y l.invariant.0) l.invariant.2) in
     let on : Leads c.args.t.now c.args.k (c.loop-c.c + 1) (get_or c.args.best.now c.loop-c.y 0) = (
-        let l = c.loop-c in
+    let l = c.loop-c in
     leads_on c.args.t.now c.args.k l.c l.y _ c.requires.formed_words l.invariant.0 off entry l.invariant.3 c.if-n-y.false) in
     (search rules, search rules, search rules, on)
 

@@ -18,8 +18,7 @@ pub overflow_add-result-2 : goal.overflow_add-result-2
 overflow_add-result-2 c = omega (arith, c.shared_slice_known-1.given c.args.at, c.shared_slice_known-2-1.given (c.args.at + 1))
 
 pub returns : goal.returns
-returns c =
-    (
+returns c = (
   sym (two_at c.args.bs.now c.args.at (omega arith)),
   omega (arith, c.shared_slice_known-1.given c.args.at, c.shared_slice_known-2-1.given (c.args.at + 1)),
-    )
+)

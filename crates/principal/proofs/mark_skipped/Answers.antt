@@ -1,5 +1,4 @@
 -- `mark_skipped` meets its contract. The loop's invariant: what is marked and what the lists left skip is all that is skipped. Assumes nothing.
-use Prim.Native.Nat.{◌-◌}
 use mathlib.Core.Path.{ap, ◌∙◌}
 use borrow.Author.Rules.{rules}
 use lib.ListN.{length}

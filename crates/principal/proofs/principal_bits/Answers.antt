@@ -1,6 +1,6 @@
 -- `principal_bits` meets its contract. The loop's invariant: the numbers so far are right, `top` is the largest reach so far, and the reaches
 -- from there on are as they were. Assumes nothing.
-use Prim.Native.Nat.{◌+◌, ◌-◌}
+use Prim.Native.Nat.{◌+◌}
 use mathlib.Core.Path.{refl, sym, ap, ◌∙◌}
 use native.Mathlib.Omega.{arith}
 use borrow.Author.Rules.{rules}
@@ -19,7 +19,7 @@ pub loop-k-preserved : goal.loop-k-preserved
 loop-k-preserved c =
     let reaches = (c.mark_skipped.new.reach) in
     let higher : let l = c.loop-k in Top reaches (l.k + 1) c.larger-top.result = (
-        let l = c.loop-k in
+    let l = c.loop-k in
     top_more reaches l.k l.top c.larger-top.result (omega (arith, c.mark_skipped.ensures.0)) l.invariant.2 (rw (l.invariant.4 l.k (omega arith)) at c.larger-top.ensures)) in
     let l = c.loop-k in
     let e = not_covered reaches l.k c.larger-top.result higher in (

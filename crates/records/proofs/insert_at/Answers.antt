@@ -21,7 +21,7 @@ pub slice_bounds-put_in-count : goal.slice_bounds-put_in-count
 slice_bounds-put_in-count c =
     let within : c.args.k ≤ get_or c.args.t.now 1 0 = rank_within c.args.t.now c.args.m.id c.args.k c.requires.id_value.1 in
     let room : let t = c.args.t.now in (c.offset-at.result ≤ c.offset-end.result) × (c.offset-end.result + record_size (get_or t 0 0) ≤ length t) = (
-        let t = c.args.t.now in
+    let t = c.args.t.now in
     let w = record_size (get_or t 0 0) in
     let l : c.args.k * w ≤ get_or t 1 0 * w = mul-le-mul_right w within in
     let z = size_words t in
@@ -33,7 +33,7 @@ pub slice_bounds-put_in-start : goal.slice_bounds-put_in-start
 slice_bounds-put_in-start c =
     let within : c.args.k ≤ get_or c.args.t.now 1 0 = rank_within c.args.t.now c.args.m.id c.args.k c.requires.id_value.1 in
     let room : let t = c.args.t.now in (c.offset-at.result ≤ c.offset-end.result) × (c.offset-end.result + record_size (get_or t 0 0) ≤ length t) = (
-        let t = c.args.t.now in
+    let t = c.args.t.now in
     let w = record_size (get_or t 0 0) in
     let l : c.args.k * w ≤ get_or t 1 0 * w = mul-le-mul_right w within in
     let z = size_words t in
@@ -46,7 +46,7 @@ pub overflow_sub-end : goal.overflow_sub-end
 overflow_sub-end c =
     let within : c.args.k ≤ get_or c.args.t.now 1 0 = rank_within c.args.t.now c.args.m.id c.args.k c.requires.id_value.1 in
     let room : let t = c.args.t.now in (c.offset-at.result ≤ c.offset-end.result) × (c.offset-end.result + record_size (get_or t 0 0) ≤ length t) = (
-        let t = c.args.t.now in
+    let t = c.args.t.now in
     let w = record_size (get_or t 0 0) in
     let l : c.args.k * w ≤ get_or t 1 0 * w = mul-le-mul_right w within in
     let z = size_words t in
@@ -58,7 +58,7 @@ pub put_in-requires : goal.put_in-requires
 put_in-requires c =
     let within : c.args.k ≤ get_or c.args.t.now 1 0 = rank_within c.args.t.now c.args.m.id c.args.k c.requires.id_value.1 in
     let room : let t = c.args.t.now in (c.offset-at.result ≤ c.offset-end.result) × (c.offset-end.result + record_size (get_or t 0 0) ≤ length t) = (
-        let t = c.args.t.now in
+    let t = c.args.t.now in
     let w = record_size (get_or t 0 0) in
     let l : c.args.k * w ≤ get_or t 1 0 * w = mul-le-mul_right w within in
     let z = size_words t in
@@ -72,7 +72,7 @@ returns c =
     let eight : length c.args.m.successors ≡ 8 = search rules in
     let within : c.args.k ≤ get_or c.args.t.now 1 0 = rank_within c.args.t.now c.args.m.id c.args.k c.requires.id_value.1 in
     let room : let t = c.args.t.now in (c.offset-at.result ≤ c.offset-end.result) × (c.offset-end.result + record_size (get_or t 0 0) ≤ length t) = (
-        let t = c.args.t.now in
+    let t = c.args.t.now in
     let w = record_size (get_or t 0 0) in
     let l : c.args.k * w ≤ get_or t 1 0 * w = mul-le-mul_right w within in
     let z = size_words t in

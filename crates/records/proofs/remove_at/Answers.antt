@@ -12,7 +12,7 @@ use Rattle.records.proofs.remove_at.Goals as goal
 pub slice_bounds-close_gap-count : goal.slice_bounds-close_gap-count
 slice_bounds-close_gap-count c =
     let room : let t = c.args.t.now in (c.offset-at.result + c.record_size-w.result ≤ c.offset-end.result) × (c.offset-end.result ≤ length t) = (
-        let t = c.args.t.now in
+    let t = c.args.t.now in
     let z = record_size (get_or t 0 0) in
     let l : suc c.args.k * z ≤ get_or t 1 0 * z = mul-le-mul_right z c.requires.k_bound in
     let m : suc c.args.k * z ≡ c.args.k * z + z = suc-mul c.args.k z in
@@ -22,7 +22,7 @@ slice_bounds-close_gap-count c =
 pub slice_bounds-close_gap-start : goal.slice_bounds-close_gap-start
 slice_bounds-close_gap-start c =
     let room : let t = c.args.t.now in (c.offset-at.result + c.record_size-w.result ≤ c.offset-end.result) × (c.offset-end.result ≤ length t) = (
-        let t = c.args.t.now in
+    let t = c.args.t.now in
     let z = record_size (get_or t 0 0) in
     let l : suc c.args.k * z ≤ get_or t 1 0 * z = mul-le-mul_right z c.requires.k_bound in
     let m : suc c.args.k * z ≡ c.args.k * z + z = suc-mul c.args.k z in
@@ -33,7 +33,7 @@ slice_bounds-close_gap-start c =
 pub overflow_sub-end : goal.overflow_sub-end
 overflow_sub-end c =
     let room : let t = c.args.t.now in (c.offset-at.result + c.record_size-w.result ≤ c.offset-end.result) × (c.offset-end.result ≤ length t) = (
-        let t = c.args.t.now in
+    let t = c.args.t.now in
     let z = record_size (get_or t 0 0) in
     let l : suc c.args.k * z ≤ get_or t 1 0 * z = mul-le-mul_right z c.requires.k_bound in
     let m : suc c.args.k * z ≡ c.args.k * z + z = suc-mul c.args.k z in
@@ -43,7 +43,7 @@ overflow_sub-end c =
 pub close_gap-requires : goal.close_gap-requires
 close_gap-requires c =
     let room : let t = c.args.t.now in (c.offset-at.result + c.record_size-w.result ≤ c.offset-end.result) × (c.offset-end.result ≤ length t) = (
-        let t = c.args.t.now in
+    let t = c.args.t.now in
     let z = record_size (get_or t 0 0) in
     let l : suc c.args.k * z ≤ get_or t 1 0 * z = mul-le-mul_right z c.requires.k_bound in
     let m : suc c.args.k * z ≡ c.args.k * z + z = suc-mul c.args.k z in
@@ -54,7 +54,7 @@ close_gap-requires c =
 pub returns : goal.returns
 returns c =
     let room : let t = c.args.t.now in (c.offset-at.result + c.record_size-w.result ≤ c.offset-end.result) × (c.offset-end.result ≤ length t) = (
-        let t = c.args.t.now in
+    let t = c.args.t.now in
     let z = record_size (get_or t 0 0) in
     let l : suc c.args.k * z ≤ get_or t 1 0 * z = mul-le-mul_right z c.requires.k_bound in
     let m : suc c.args.k * z ≡ c.args.k * z + z = suc-mul c.args.k z in

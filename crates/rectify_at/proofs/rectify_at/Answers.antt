@@ -23,7 +23,7 @@ replace_at-requires c =
     let stands : Stands c.args.t.now c.args.k (get_or (ids (members_in c.args.t.now)) c.args.k 0) = own_place c.args.t.now c.args.k c.requires.k_bound in
     let alive : c.stands_at-alive.result ≡ live (members_in c.args.t.now) here.predecessor = c.stands_at-alive.ensures ∙ stands_member c.args.t.now c.rank-at.result c.word_at-p.result c.requires.formed_words c.rank-at.ensures.0 ∙ ap (live (members_in c.args.t.now)) c.word_at-p.ensures in
     let noticed : let a = c.args in view (get_or a.t.now 0 0) c.rectify-o.result ≡ rectify_in (members_in a.t.now) a.q here = (
-        let a = c.args in
+    let a = c.args in
     let w = get_or a.t.now 0 0 in
     c.rectify-o.ensures w ∙ ap (λ (b : Bool). rectify b a.q (view w c.member_at-m.result)) alive
     ∙ ap (rectify (live (members_in a.t.now) here.predecessor) a.q) c.member_at-m.ensures) in
@@ -35,7 +35,7 @@ returns-then-renews_at c =
     let here = (let a = c.args in get_or (members_in a.t.now) a.k nobody) in
     let stands : Stands c.args.t.now c.args.k (get_or (ids (members_in c.args.t.now)) c.args.k 0) = own_place c.args.t.now c.args.k c.requires.k_bound in
     let by_name : (ys : List ℕ) → let a = c.args in let ws = a.t.now in let n = get_or (ids (members_in ws)) a.k 0 in (answerIs : Answer) → answerIs ≡ accepted (rectify_reply (members_in ws) a.q here) → ys ≡ written (with_members (replaced (rectify_in (members_in ws) a.q here) (members_in ws)) (table_of ws)) ws → (answerIs ≡ accepted (rectify_reply (members_in ws) a.q (named (members_in ws) n))) × (ys ≡ written (rectified n a.q (table_of ws)) ws) = (
-        λ (ys : List ℕ) (x : Answer) p q. let ws = c.args.t.now in
+    λ (ys : List ℕ) (x : Answer) p q. let ws = c.args.t.now in
     let m = stands_named c.requires.formed_words stands in (
       p ∙ ap (λ (v : Member). accepted (rectify_reply (members_in ws) c.args.q v)) m,
       q ∙ ap (λ (v : Member). written (with_members (replaced (rectify_in (members_in ws) c.args.q v) (members_in ws)) (table_of ws)) ws) m,
@@ -43,7 +43,7 @@ returns-then-renews_at c =
     let alive : c.stands_at-alive.result ≡ live (members_in c.args.t.now) here.predecessor = c.stands_at-alive.ensures ∙ stands_member c.args.t.now c.rank-at.result c.word_at-p.result c.requires.formed_words c.rank-at.ensures.0 ∙ ap (live (members_in c.args.t.now)) c.word_at-p.ensures in
     let told : let a = c.args in c.renews_at.result ≡ renews (live (members_in a.t.now) here.predecessor) a.q here = c.renews_at.ensures ∙ ap (λ (b : Bool). renews b c.args.q here) alive in
     let noticed : let a = c.args in view (get_or a.t.now 0 0) c.rectify-o.result ≡ rectify_in (members_in a.t.now) a.q here = (
-        let a = c.args in
+    let a = c.args in
     let w = get_or a.t.now 0 0 in
     c.rectify-o.ensures w ∙ ap (λ (b : Bool). rectify b a.q (view w c.member_at-m.result)) alive
     ∙ ap (rectify (live (members_in a.t.now) here.predecessor) a.q) c.member_at-m.ensures) in
@@ -56,7 +56,7 @@ returns c =
     let here = (let a = c.args in get_or (members_in a.t.now) a.k nobody) in
     let stands : Stands c.args.t.now c.args.k (get_or (ids (members_in c.args.t.now)) c.args.k 0) = own_place c.args.t.now c.args.k c.requires.k_bound in
     let by_name : (ys : List ℕ) → let a = c.args in let ws = a.t.now in let n = get_or (ids (members_in ws)) a.k 0 in (answerIs : Answer) → answerIs ≡ accepted (rectify_reply (members_in ws) a.q here) → ys ≡ written (with_members (replaced (rectify_in (members_in ws) a.q here) (members_in ws)) (table_of ws)) ws → (answerIs ≡ accepted (rectify_reply (members_in ws) a.q (named (members_in ws) n))) × (ys ≡ written (rectified n a.q (table_of ws)) ws) = (
-        λ (ys : List ℕ) (x : Answer) p q. let ws = c.args.t.now in
+    λ (ys : List ℕ) (x : Answer) p q. let ws = c.args.t.now in
     let m = stands_named c.requires.formed_words stands in (
       p ∙ ap (λ (v : Member). accepted (rectify_reply (members_in ws) c.args.q v)) m,
       q ∙ ap (λ (v : Member). written (with_members (replaced (rectify_in (members_in ws) c.args.q v) (members_in ws)) (table_of ws)) ws) m,

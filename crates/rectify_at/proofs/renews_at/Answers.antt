@@ -13,7 +13,7 @@ unfolding renews
 returns-then-between c =
     let here = (let a = c.args in get_or (members_in a.t.now) a.k nobody) in
     let inside : c.between.result ≡ between here.predecessor c.args.q here.id = (
-        let q = c.args.q in
+    let q = c.args.q in
     c.between.ensures ∙ ap (λ (x : ℕ). between x q c.word_at-n.result) c.word_at-old.ensures ∙ ap (between here.predecessor q) c.word_at-n.ensures) in
     rw (sym inside ∙ c.if-between.true)
 
@@ -22,7 +22,7 @@ unfolding renews
 returns-then-alive c =
     let here = (let a = c.args in get_or (members_in a.t.now) a.k nobody) in
     let inside : c.between.result ≡ between here.predecessor c.args.q here.id = (
-        let q = c.args.q in
+    let q = c.args.q in
     c.between.ensures ∙ ap (λ (x : ℕ). between x q c.word_at-n.result) c.word_at-old.ensures ∙ ap (between here.predecessor q) c.word_at-n.ensures) in
     rw (sym inside ∙ c.if-between.false, c.if-alive.true)
 
@@ -31,6 +31,6 @@ unfolding renews
 returns c =
     let here = (let a = c.args in get_or (members_in a.t.now) a.k nobody) in
     let inside : c.between.result ≡ between here.predecessor c.args.q here.id = (
-        let q = c.args.q in
+    let q = c.args.q in
     c.between.ensures ∙ ap (λ (x : ℕ). between x q c.word_at-n.result) c.word_at-old.ensures ∙ ap (between here.predecessor q) c.word_at-n.ensures) in
     rw (sym inside ∙ c.if-between.false, c.if-alive.false)

@@ -1,5 +1,4 @@
 -- `doubled` meets its contract. The loop's invariant: the places so far are right. Assumes nothing.
-use Prim.Native.Nat.{◌-◌}
 use native.Mathlib.Omega.{arith}
 use borrow.Author.Rules.{rules}
 use lib.ListN.{get_or, length-set}

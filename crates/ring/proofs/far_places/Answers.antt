@@ -1,5 +1,4 @@
 -- `far_places` meets its contract. The loop's invariant: the array has where the moves counted lead. Assumes nothing.
-use Prim.Native.Nat.{◌-◌}
 use borrow.Author.Rules.{rules}
 use Rattle.ring.proofs.Rings.{along_best, along_twice}
 use Rattle.ring.proofs.far_places.Goals as goal

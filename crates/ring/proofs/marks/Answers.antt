@@ -1,7 +1,6 @@
 -- `marks` meets its contract. The loop's invariant: marked are the places among the numbers so far. Assumes nothing.
-use Prim.Native.Nat.{◌-◌, ◌<◌}
+use Prim.Native.Nat.{◌<◌}
 use mathlib.Core.Path.{◌≡◌}
-use mathlib.Core.Logic.{⊎_elim}
 use native.Mathlib.Omega.{arith}
 use borrow.Author.Rules.{rules}
 use lib.ListN.{length-set, get_or-replicate}
@@ -17,7 +16,7 @@ loop-k-preserved c =
     let l = c.loop-k in
     let a = c.args in
     elim c.if-j-none.branch [
-      then-j-none w ↦ rw w.m-is (search rules, simp length-set l.invariant.1, marked a.a.now l.m l.k a.n (omega arith) l.invariant.2 (omega arith) w.if-j-none.true)
+      | then-j-none w ↦ rw w.m-is (search rules, simp length-set l.invariant.1, marked a.a.now l.m l.k a.n (omega arith) l.invariant.2 (omega arith) w.if-j-none.true)
       | else-j-none w ↦ rw w.m-is (search rules, l.invariant.1, not_marked a.a.now l.m l.k a.n (omega arith) l.invariant.2 w.if-j-none.false)
     ]
 

@@ -22,11 +22,14 @@ replace_at-requires c =
     let read : let ws = c.args.t.now in view (get_or ws 0 0) c.member_at-m.result ≡ here = c.member_at-m.ensures ∙ stands_named c.requires.formed_words stands in
     let stepped : let ws = c.args.t.now in view (get_or ws 0 0) c.take_step-o.result.member ≡ stabilize space_in (members_in ws) here = c.take_step-o.ensures.leaves ∙ ap (stabilize space_in (members_in c.args.t.now)) read in
     let counted : let ws = c.args.t.now in view (get_or ws 0 0) c.count_step-c.result ≡ count_step (stabilize space_in (members_in ws) here) = c.count_step-c.ensures (get_or c.args.t.now 0 0) ∙ ap count_step stepped in
-    let ms = members_in c.args.t.now in record { formed_words = c.requires.formed_words; stands = record {
+    let ms = members_in c.args.t.now in record {
+      formed_words = c.requires.formed_words;
+      stands = record {
         within = c.requires.k_bound;
         has_id = sym
             (ap (λ (m : Member). m.id) counted ∙ same_id ms here space_in ∙ (found ms (live_in ms who (stands_live c.requires.formed_words stands))).1);
-      } }
+      };
+    }
 
 pub returns : goal.returns
 returns c =

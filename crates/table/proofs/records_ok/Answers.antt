@@ -48,7 +48,7 @@ loop-left-preserved c =
     let size = (c.record_size-w.result) in
     let one_left : size ≤ length c.loop-left.p.now = rw c.record_size-w.ensures (omega (arith, one_of c.loop-left.left (record_size c.args.r) c.loop-left-test.true)) in
     let same_test : let k = c.loop-left in c.record_ok.result ≡ (leb k.lo (get_or k.p.now 0 0) && right_pending (get_or k.p.now 2 0) (get_or k.p.now 3 0)) = (
-        let k = c.loop-left in
+    let k = c.loop-left in
     c.record_ok.ensures ∙ ap (λ (m : Member). leb k.lo m.id && right_pending m.pending m.candidate)
     (member_part c.args.r size k.p.now c.record_size-w.ensures one_left)) in
     let k = c.loop-left in
@@ -65,7 +65,7 @@ returns-else-record_ok c =
     let size = (c.record_size-w.result) in
     let one_left : size ≤ length c.loop-left.p.now = rw c.record_size-w.ensures (omega (arith, one_of c.loop-left.left (record_size c.args.r) c.loop-left-test.true)) in
     let same_test : let k = c.loop-left in c.record_ok.result ≡ (leb k.lo (get_or k.p.now 0 0) && right_pending (get_or k.p.now 2 0) (get_or k.p.now 3 0)) = (
-        let k = c.loop-left in
+    let k = c.loop-left in
     c.record_ok.ensures ∙ ap (λ (m : Member). leb k.lo m.id && right_pending m.pending m.candidate)
     (member_part c.args.r size k.p.now c.record_size-w.ensures one_left)) in
     let k = c.loop-left in

@@ -16,7 +16,7 @@ pub slice_bounds-candidate_inside-end : goal.slice_bounds-candidate_inside-end
 slice_bounds-candidate_inside-end c =
     let sized : c.record_size-w.result ≡ record_size c.args.r = c.record_size-w.ensures in
     let one : c.record_size-w.result ≤ length c.loop-left.p.now = (
-        let k = c.loop-left in
+    let k = c.loop-left in
     rw sized (one_fits c.args.r k.left k.p.now c.loop-left-test.true k.invariant.0)) in
     sym (length-take-le _ _ one)
 
@@ -24,7 +24,7 @@ pub candidate_inside-requires : goal.candidate_inside-requires
 candidate_inside-requires c =
     let sized : c.record_size-w.result ≡ record_size c.args.r = c.record_size-w.ensures in
     let one : c.record_size-w.result ≤ length c.loop-left.p.now = (
-        let k = c.loop-left in
+    let k = c.loop-left in
     rw sized (one_fits c.args.r k.left k.p.now c.loop-left-test.true k.invariant.0)) in
     rw (length-take-le _ _ one, sized) (omega (arith, c.requires.0))
 
@@ -32,7 +32,7 @@ pub slice_bounds-p-count : goal.slice_bounds-p-count
 slice_bounds-p-count c =
     let sized : c.record_size-w.result ≡ record_size c.args.r = c.record_size-w.ensures in
     let one : c.record_size-w.result ≤ length c.loop-left.p.now = (
-        let k = c.loop-left in
+    let k = c.loop-left in
     rw sized (one_fits c.args.r k.left k.p.now c.loop-left-test.true k.invariant.0)) in
     one
 
@@ -40,7 +40,7 @@ pub slice_bounds-p-start : goal.slice_bounds-p-start
 slice_bounds-p-start c =
     let sized : c.record_size-w.result ≡ record_size c.args.r = c.record_size-w.ensures in
     let one : c.record_size-w.result ≤ length c.loop-left.p.now = (
-        let k = c.loop-left in
+    let k = c.loop-left in
     rw sized (one_fits c.args.r k.left k.p.now c.loop-left-test.true k.invariant.0)) in
     one
 
@@ -48,10 +48,10 @@ pub loop-left-preserved : goal.loop-left-preserved
 loop-left-preserved c =
     let sized : c.record_size-w.result ≡ record_size c.args.r = c.record_size-w.ensures in
     let one : c.record_size-w.result ≤ length c.loop-left.p.now = (
-        let k = c.loop-left in
+    let k = c.loop-left in
     rw sized (one_fits c.args.r k.left k.p.now c.loop-left-test.true k.invariant.0)) in
     let same_test : c.candidate_inside.result ≡ candidate_inside (member_of c.args.r c.loop-left.p.now) = (
-        let r = c.args.r in
+    let r = c.args.r in
     c.candidate_inside.ensures r (search rules) ∙ ap candidate_inside (member_part r _ c.loop-left.p.now sized one)) in
     let k = c.loop-left in
     let a = c.args in (
@@ -63,10 +63,10 @@ pub returns-else-candidate_inside : goal.returns-else-candidate_inside
 returns-else-candidate_inside c =
     let sized : c.record_size-w.result ≡ record_size c.args.r = c.record_size-w.ensures in
     let one : c.record_size-w.result ≤ length c.loop-left.p.now = (
-        let k = c.loop-left in
+    let k = c.loop-left in
     rw sized (one_fits c.args.r k.left k.p.now c.loop-left-test.true k.invariant.0)) in
     let same_test : c.candidate_inside.result ≡ candidate_inside (member_of c.args.r c.loop-left.p.now) = (
-        let r = c.args.r in
+    let r = c.args.r in
     c.candidate_inside.ensures r (search rules) ∙ ap candidate_inside (member_part r _ c.loop-left.p.now sized one)) in
     let k = c.loop-left in
     inside_here c.args.r k.left k.p.now _ (omega arith) same_test c.if-candidate_inside.false ∙ k.invariant.1

@@ -1,6 +1,6 @@
 -- `write_member` meets its contract: eight entries at once, or one by one, and the step count last. The loop's invariant: after the four words, the
 -- first i entries are copied. Assumes nothing.
-use Prim.Native.Nat.{ℕ, ◌+◌, ◌-◌}
+use Prim.Native.Nat.{ℕ, ◌+◌}
 use mathlib.Core.Path.{◌≡◌, refl, ap, ◌∙◌}
 use mathlib.Core.List.{List}
 use native.Mathlib.Numerals.{add-one}
