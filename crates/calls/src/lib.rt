@@ -1,9 +1,10 @@
 // The seven calls as one type, one function over them, and one over a list of them, with demand 3 in its contract.
-// The borrow checker covers no slice of enums: `apply_all` is proved by hand, and leaves all else to `apply`.
 #![tactic(auto)]
 
-ghost use Rattle.std.specs.Prelude.{◌≡◌, map};
-ghost use Rattle.model.specs.Run.{call_answer, call_words, run};
+ghost use Rattle.std.specs.Prelude.{◌≡◌, map, ltb, true};
+ghost use Rattle.model.specs.Lists.{every};
+ghost use Rattle.model.specs.Table.{word_limit};
+ghost use Rattle.model.specs.Run.{numbers_of, call_answer, call_words, run};
 ghost use Rattle.theory.specs.Claim.{Holds};
 ghost use Rattle.answers.specs.Packed.{Says};
 ghost use Rattle.calls.specs.Calls.{call_of, MayStart};
@@ -37,6 +38,11 @@ pub fn apply(t: &mut [u32], c: Call) -> Answer
     }
 }
 
+// The numbers of a call are words, as each is a `u32`. The body does nothing: `apply_all` calls it for what it ensures.
+fn numbers_fit(c: Call)
+    ensures { every (λ x. ltb x word_limit) (numbers_of (call_of c)) ≡ true }
+{}
+
 // The calls on the table, one after the other, each on what the last one left. From a sound table, with each loss granted, the ring never splits.
 pub fn apply_all(t: &mut [u32], cs: &[Call])
     ensures { (t.new ≡ run (map call_of cs.now) t.old) × (MayStart cs.now t.old → Holds t.new) }
@@ -44,6 +50,7 @@ pub fn apply_all(t: &mut [u32], cs: &[Call])
     let mut i: usize = 0;
     while i < cs.len() {
         let c = cs[i];
+        numbers_fit(c);
         apply(t, c);
         i += 1;
     }
