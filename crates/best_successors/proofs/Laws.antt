@@ -11,7 +11,8 @@ use borrow.Author.Tests.{eqb-true, eq-eqb, ne_eqb, lt-ltb, le-ltb}
 use lib.Dec.{ltb, eqb}
 use lib.ListN.{length, get_or, drop, set, length-drop, drop_of_length-le}
 use lib.Seq.{drop-cons}
-use Rattle.model.specs.Lists.{if◌then◌else◌, every, any, sum, contains}
+use Rattle.std.specs.Prelude.{if◌then◌else◌}
+use Rattle.model.specs.Lists.{every, any, sum, contains}
 use Rattle.model.specs.Table.{Member, header_size, members_in, ids}
 use Rattle.model.specs.Ring.{past, searched, live, nobody, named, has_live, first_live, best_successor, passed_by}
 use Rattle.laws.specs.Lists.{or-false, Rising, rising_true, above_in, above_rising, length_ids}

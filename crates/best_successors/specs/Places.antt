@@ -1,6 +1,5 @@
 -- Members by their place in the table instead of by identifier: what the walks round the ring go by.
-use Rattle.std.specs.Prelude.{ℕ, suc, ◌<◌, ◌≡◌, List, [], ◌∷◌, eqb, length, get_or}
-use Rattle.model.specs.Lists.{if◌then◌else◌}
+use Rattle.std.specs.Prelude.{ℕ, suc, ◌<◌, ◌≡◌, List, [], ◌∷◌, eqb, length, get_or, if◌then◌else◌}
 use Rattle.model.specs.Table.{Member, members_in, ids}
 use Rattle.model.specs.Ring.{live, nobody}
 

@@ -11,7 +11,8 @@ use lib.ListN.{length, take, drop}
 use lib.Seq.{drop-drop, get_or-drop}
 use Rattle.laws.specs.Parts.{part_from}
 use borrow.Author.Tests.{lt-leb, le-leb, lt-ltb, le-ltb, eq-eqb, ne_eqb}
-use Rattle.model.specs.Lists.{if◌then◌else◌, option}
+use Rattle.std.specs.Prelude.{if◌then◌else◌}
+use Rattle.model.specs.Lists.{option}
 use Rattle.model.specs.Answer.{declined}
 use Rattle.model.specs.Image.{Due, field_head, header_length, header_due, member_length, image_r, image_count, field_stands, due_after, due, field_at, field_reply}
 use Rattle.laws.specs.Bytes.{field_size}

@@ -9,7 +9,8 @@ use native.Mathlib.Omega.{arith}
 use lib.Dec.{ltb, leb, eqb}
 use lib.ListN.{length}
 use borrow.Author.Tests.{ltb-true, leb-true, lt-ltb, le-leb}
-use Rattle.model.specs.Lists.{if◌then◌else◌, every}
+use Rattle.std.specs.Prelude.{if◌then◌else◌}
+use Rattle.model.specs.Lists.{every}
 use Rattle.model.specs.Windows.{week, paired, windows_in, of_week}
 use Rattle.model.specs.Answer.{accepted}
 use Rattle.model.specs.Refusals.{right_window, bad_windows, open_refusal}

@@ -1,6 +1,5 @@
 -- What is asked of the minute and of the number of words before a pass over the windows; how far ahead one is first open, and the lesser of two such distances.
-use Rattle.std.specs.Prelude.{ℕ, ◌+◌, ◌-◌, ◌%◌, Bool, ◌&&◌, ltb, leb, eqb}
-use Rattle.model.specs.Lists.{if◌then◌else◌}
+use Rattle.std.specs.Prelude.{ℕ, ◌+◌, ◌-◌, ◌%◌, Bool, ◌&&◌, ltb, leb, eqb, if◌then◌else◌}
 use Rattle.model.specs.Windows.{Window, week, in_window}
 
 -- the minutes from m to the first one that the window holds: none where it holds m, else up to its start, going round

@@ -1,6 +1,6 @@
 -- The identifier after another as a wrapping add. Assumes nothing.
 use Rattle.std.proofs.Common.{◌≡◌, ℕ, suc, ◌+◌, ◌%◌, ◌^◌, ◌<◌, Bool, true, false, ltb, refl, arith, ltb-false, ltb-true}
-use Rattle.model.specs.Lists.{if◌then◌else◌}
+use Rattle.std.specs.Prelude.{if◌then◌else◌}
 use Rattle.model.specs.Identifier.{after}
 use Rattle.model.specs.Table.{word_limit}
 

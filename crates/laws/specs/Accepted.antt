@@ -1,8 +1,7 @@
 -- Declined and accepted calls: what a number other than 0 leaves, and what holds where no cause applies. Assumes nothing.
-use Rattle.std.specs.Prelude.{◌≡◌, refl, Bool, true, false, not, List, [], ◌∷◌, ℕ, zero, suc, ◌-◌, ◌≤◌, ◌<◌, length, ltb, leb}
+use Rattle.std.specs.Prelude.{◌≡◌, refl, Bool, true, false, not, List, [], ◌∷◌, ℕ, zero, suc, ◌-◌, ◌≤◌, ◌<◌, length, ltb, leb, if◌then◌else◌}
 use Rattle.std.proofs.Common.{arith, ltb-false, leb-false}
 use Rattle.std.proofs.lemmas.Bool.{lt-leb, not-false}
-use Rattle.model.specs.Lists.{if◌then◌else◌}
 use Rattle.model.specs.Identifier.{between}
 use Rattle.model.specs.Table.{record_size, size, table_of, members_in, well_formed}
 use Rattle.model.specs.Ring.{live, named, successor, sound}

@@ -1,8 +1,8 @@
 -- Lists: equal lists, membership, no element twice, a pigeonhole, counts, tests of all and of some, rising numbers, and the members of a table by name.
-use Rattle.std.specs.Prelude.{◌≡◌, refl, ◌⊎◌, Bool, true, false, not, ◌&&◌, ◌||◌, List, [], ◌∷◌, ◌++◌, ℕ, zero, suc, ◌+◌, ◌≤◌, ◌<◌, length, take, drop, ltb, eqb}
+use Rattle.std.specs.Prelude.{◌≡◌, refl, ◌⊎◌, Bool, true, false, not, ◌&&◌, ◌||◌, List, [], ◌∷◌, ◌++◌, ℕ, zero, suc, ◌+◌, ◌≤◌, ◌<◌, length, take, drop, ltb, eqb, if◌then◌else◌}
 use Rattle.std.proofs.Common.{sym, ap, ap₂, ◌∙◌, inl, inr, true≢false, arith, eqb-true, eq-eqb, ne_eqb, ltb-true, lt-ltb}
 use Rattle.std.proofs.lemmas.Bool.{false≢true, eqb-false}
-use Rattle.model.specs.Lists.{if◌then◌else◌, every, any, select, bit, count, contains, rising_from, rising, same}
+use Rattle.model.specs.Lists.{every, any, select, bit, count, contains, rising_from, rising, same}
 use Rattle.model.specs.Table.{Member, ids}
 use Rattle.model.specs.Ring.{live, nobody, named}
 

@@ -1,8 +1,8 @@
 -- The pairs of a table, and those that the test of a member takes: how many they are, and what they skip. Principals by lists and by pairs.
-use Rattle.std.specs.Prelude.{ℕ, ◌*◌, ◌≡◌, refl, Bool, true, false, not, ◌&&◌, ◌||◌, List, [], ◌∷◌, ◌++◌, length}
+use Rattle.std.specs.Prelude.{ℕ, ◌*◌, ◌≡◌, refl, Bool, true, false, not, ◌&&◌, ◌||◌, List, [], ◌∷◌, ◌++◌, length, if◌then◌else◌}
 use Rattle.std.proofs.Common.{sym, ap, ◌∙◌, suc-mul, arith, length-append}
 use Rattle.std.proofs.Math.Bool.{or_assoc}
-use Rattle.model.specs.Lists.{if◌then◌else◌, any}
+use Rattle.model.specs.Lists.{any}
 use Rattle.model.specs.Table.{Member}
 use Rattle.model.specs.Ring.{skips, principal}
 use Rattle.model.specs.Pairs.{Pair, neighbours, pairs, skipped_by, taken}

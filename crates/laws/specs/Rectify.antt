@@ -1,6 +1,5 @@
 -- One rectify step of the member v with a notice from q: it writes the predecessor alone. Assumes nothing.
-use Rattle.std.specs.Prelude.{ℕ, ◌≡◌, refl, Bool, true, false, List}
-use Rattle.model.specs.Lists.{if◌then◌else◌}
+use Rattle.std.specs.Prelude.{ℕ, ◌≡◌, refl, Bool, true, false, List, if◌then◌else◌}
 use Rattle.model.specs.Table.{Member}
 use Rattle.model.specs.Ring.{live}
 use Rattle.model.specs.Steps.{with_predecessor, renews, rectify_in}

@@ -1,10 +1,9 @@
 -- The members that stay where some go, whichever they are: they were members, still by rising identifier; who was a principal is one; and the
 -- table stays well-formed. Then one member alone: the others stay, and they are one fewer.
-use Rattle.std.specs.Prelude.{◌≡◌, refl, ◌⊎◌, Bool, true, false, not, List, [], ◌∷◌, ℕ, suc, ◌+◌, ◌*◌, ◌≤◌, length, eqb}
+use Rattle.std.specs.Prelude.{◌≡◌, refl, ◌⊎◌, Bool, true, false, not, List, [], ◌∷◌, ℕ, suc, ◌+◌, ◌*◌, ◌≤◌, length, eqb, if◌then◌else◌}
 use Rattle.std.proofs.Common.{sym, ap, ◌∙◌, inl, inr, ⊎_elim, arith}
 use Rattle.std.proofs.lemmas.Bool.{false≢true}
 use borrow.Author.Tests.{eqb-true, eqb-false, ne_eqb, ltb-false, not-false}
-use Rattle.model.specs.Lists.{if◌then◌else◌}
 use Rattle.model.specs.Table.{Member, Table, record_size, size, ids}
 use Rattle.model.specs.Ring.{named, skips, principal, has_live}
 use Rattle.model.specs.Steps.{is_named, staying, without, without_those}

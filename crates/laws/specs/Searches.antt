@@ -1,8 +1,7 @@
 -- Laws of the search of a list for its first live entry. Assumes nothing.
-use Rattle.std.specs.Prelude.{ℕ, suc, ◌≤◌, ◌≡◌, refl, List, [], ◌∷◌, Bool, true, false, length, get_or}
+use Rattle.std.specs.Prelude.{ℕ, suc, ◌≤◌, ◌≡◌, refl, List, [], ◌∷◌, Bool, true, false, length, get_or, if◌then◌else◌}
 use Rattle.std.proofs.Math.Option.{some}
 use Rattle.std.proofs.Common.{arith}
-use Rattle.model.specs.Lists.{if◌then◌else◌}
 use Rattle.model.specs.Table.{Member}
 use Rattle.model.specs.Ring.{past, searched, first_live, live}
 

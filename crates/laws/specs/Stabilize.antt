@@ -1,9 +1,8 @@
 -- One stabilize step of the member v, one case at a time: what it replies, and what it makes of the record. Assumes nothing.
-use Rattle.std.specs.Prelude.{ℕ, ◌≡◌, Bool}
+use Rattle.std.specs.Prelude.{ℕ, ◌≡◌, Bool, if◌then◌else◌}
 use Rattle.std.proofs.Math.Path.{refl}
 use Rattle.std.proofs.Math.Bool.{true, false, not}
 use mathlib.Core.List.{List, [], ◌∷◌}
-use Rattle.model.specs.Lists.{if◌then◌else◌}
 use Rattle.model.specs.Table.{Member}
 use Rattle.model.specs.Ring.{live, named, successor, is_pending}
 use Rattle.model.specs.Steps.{adopt, await_candidate, clear_pending, drop_head, offered, is_better, stabilize_from_successor, stabilize_from_predecessor, stabilize, stabilize_reply}

@@ -1,6 +1,6 @@
 -- Step counts erased: no reply depends on a count. Each of these definitions tells of a table what it tells of the table without counts, and each step leaves
 -- the same of both but for counts. Assumes nothing.
-use Rattle.std.specs.Prelude.{◌≡◌, Bool, ◌&&◌, ◌||◌, ltb, length}
+use Rattle.std.specs.Prelude.{◌≡◌, Bool, ◌&&◌, ◌||◌, ltb, length, if◌then◌else◌}
 use Rattle.std.proofs.Math.Path.{refl, ap, ap₂}
 use Rattle.std.proofs.Common.{sym, ◌∙◌}
 use Rattle.std.proofs.Math.Bool.{true, false, not}
@@ -10,7 +10,7 @@ use Rattle.std.proofs.Math.Option.{some}
 use Prim.Native.Nat.{ℕ, zero, suc, ◌+◌}
 use Rattle.std.proofs.Math.Dec.{leb, eqb}
 use borrow.Author.Tests.{eqb-true, eq-eqb}
-use Rattle.model.specs.Lists.{if◌then◌else◌, option, every, any, count, sum, contains, bit, same_by}
+use Rattle.model.specs.Lists.{option, every, any, count, sum, contains, bit, same_by}
 use Rattle.model.specs.Identifier.{between}
 use Rattle.model.specs.Table.{Member, idle, Table, space_of, ids}
 use Rattle.model.specs.Ring.{live, named, successor, skips, principal, principals, has_live, is_pending, candidate_inside, sound, Search, past, searched, first_live, best_successor, passed_by, passed_by_all, reaches, on_ring, ring_members, moves_from, ideal_member, ideal, verdict}

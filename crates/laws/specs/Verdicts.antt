@@ -1,9 +1,9 @@
 -- Sound or not, and the verdict, one case at a time. Assumes nothing.
-use Rattle.std.specs.Prelude.{ℕ, ◌+◌, ◌≤◌, ◌<◌, ◌≡◌, refl, Bool, true, false}
+use Rattle.std.specs.Prelude.{ℕ, ◌+◌, ◌≤◌, ◌<◌, ◌≡◌, refl, Bool, true, false, if◌then◌else◌}
 use Rattle.std.proofs.Common.{sym, arith}
 use Rattle.std.proofs.Math.Bool.{and-false}
 use borrow.Author.Tests.{le-leb, lt-leb}
-use Rattle.model.specs.Lists.{if◌then◌else◌, every}
+use Rattle.model.specs.Lists.{every}
 use Rattle.model.specs.Table.{Table}
 use Rattle.model.specs.Ring.{has_live, principals, candidate_inside, sound, ideal, verdict}
 

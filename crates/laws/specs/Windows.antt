@@ -1,6 +1,6 @@
 -- Windows of the week: one window, those that words say, a search for the first open minute, the two questions; and settle with windows as settle whose limit is
 -- the open minutes. Assumes nothing.
-use Rattle.std.specs.Prelude.{◌≡◌, ◌⊎◌, Bool, not, ◌&&◌, List, [], ◌∷◌, ltb, leb, eqb, length}
+use Rattle.std.specs.Prelude.{◌≡◌, ◌⊎◌, Bool, not, ◌&&◌, List, [], ◌∷◌, ltb, leb, eqb, length, if◌then◌else◌}
 use Rattle.std.proofs.Math.Path.{refl, ap}
 use Rattle.std.proofs.Common.{sym, ap₂, ◌∙◌, inl, inr}
 use Rattle.std.proofs.Math.Bool.{true, false}
@@ -8,7 +8,7 @@ use Rattle.std.proofs.Math.Option.{Option, some, none}
 use Prim.Native.Nat.{ℕ, zero, suc, ◌+◌, ◌≤◌, ◌<◌}
 use native.Mathlib.Omega.{arith}
 use borrow.Author.Tests.{ltb-true, leb-true, eqb-false, not-true, not-false, lt-ltb, le-ltb, le-leb, lt-leb}
-use Rattle.model.specs.Lists.{if◌then◌else◌, option, every, bit}
+use Rattle.model.specs.Lists.{option, every, bit}
 use Rattle.model.specs.Table.{Table, table_of}
 use Rattle.model.specs.Ring.{verdict}
 use Rattle.model.specs.Answer.{Answer, accepted, declined, answer, afterwards}

@@ -10,7 +10,8 @@ use lib.Dec.{eqb}
 use lib.ListN.{length, take, drop}
 use lib.Seq.{take_all, length-take-le}
 use borrow.Author.Tests.{le-leb, ne_eqb}
-use Rattle.model.specs.Lists.{if◌then◌else◌, every}
+use Rattle.std.specs.Prelude.{if◌then◌else◌}
+use Rattle.model.specs.Lists.{every}
 use Rattle.laws.specs.Order.{less?}
 use Rattle.laws.specs.Parts.{part_from}
 use Rattle.script.specs.Lines.{Unreadable, Asks as AsksOf, on_first, parts, value, is_number, numbers_of, takes, word_of, asks, meaning}

@@ -1,7 +1,6 @@
 -- What the functions that read a line give, by the definitions of a session.
-use Rattle.std.specs.Prelude.{ℕ, ◌≤◌, List, [], ◌∷◌, take}
+use Rattle.std.specs.Prelude.{ℕ, ◌≤◌, List, [], ◌∷◌, take, if◌then◌else◌}
 use Rattle.std.proofs.Math.Option.{Option, some, none}
-use Rattle.model.specs.Lists.{if◌then◌else◌}
 use Rattle.script.specs.Lines.{Meaning, Unreadable, Asks as AsksOf, parts, takes}
 use Rattle.part.specs.declared.MaybeWord.{MaybeWord}
 use Rattle.part.specs.declared.MaybeWord.TheVariants.{Is, Nothing}

@@ -7,7 +7,8 @@ use native.Mathlib.Numerals.{add-one}
 use native.Mathlib.Omega.{arith}
 use lib.Dec.{eqb}
 use lib.ListN.{get_or}
-use Rattle.model.specs.Lists.{if◌then◌else◌, option}
+use Rattle.std.specs.Prelude.{if◌then◌else◌}
+use Rattle.model.specs.Lists.{option}
 use Rattle.model.specs.Identifier.{between}
 use Rattle.model.specs.Table.{Member, members_in, ids}
 use Rattle.model.specs.Ring.{nobody, named, best_successor, passed_by}

@@ -1,6 +1,5 @@
 -- What a call answers, and what it leaves in a buffer: accepted, or declined by a number.
-use Rattle.std.specs.Prelude.{ℕ, zero, suc, Bool, List, [], ◌∷◌}
-use Rattle.model.specs.Lists.{if◌then◌else◌}
+use Rattle.std.specs.Prelude.{ℕ, zero, suc, Bool, List, [], ◌∷◌, if◌then◌else◌}
 
 -- an answer: 0 and the reply's values, in the documents' order; or the number that declines the call, and 8's member
 pub record Answer : Type 0 where

@@ -1,6 +1,6 @@
 -- Document 02, Req 01: the objects a shelf holds, as runs of positions in a rising list of keys.
-use Rattle.std.specs.Prelude.{ℕ, List, [], ◌∷◌, leb, eqb, length, get_or}
-use Rattle.model.specs.Lists.{if◌then◌else◌, count}
+use Rattle.std.specs.Prelude.{ℕ, List, [], ◌∷◌, leb, eqb, length, get_or, if◌then◌else◌}
+use Rattle.model.specs.Lists.{count}
 use Rattle.model.specs.Table.{Member, ids}
 use Rattle.model.specs.Ring.{next_down}
 

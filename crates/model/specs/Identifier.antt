@@ -1,6 +1,5 @@
 -- Document 01, "Identifiers": the order round the ring, and the identifier after another.
-use Rattle.std.specs.Prelude.{ℕ, suc, ◌^◌, Bool, ◌&&◌, ◌||◌, ltb}
-use Rattle.model.specs.Lists.{if◌then◌else◌}
+use Rattle.std.specs.Prelude.{ℕ, suc, ◌^◌, Bool, ◌&&◌, ◌||◌, ltb, if◌then◌else◌}
 
 -- the size of the identifier space: an identifier is any number below it
 unfoldable pub space : ℕ

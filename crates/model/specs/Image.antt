@@ -1,7 +1,7 @@
 -- Document 01, "Starting, saving, and the rest": the image of a table, in tagged fields, and the field due at a position.
-use Rattle.std.specs.Prelude.{ℕ, zero, suc, ◌+◌, ◌-◌, ◌*◌, ◌/◌, ◌%◌, Bool, ◌&&◌, List, [], ◌∷◌, ◌++◌, ltb, leb, eqb, length, get_or, take, drop}
+use Rattle.std.specs.Prelude.{ℕ, zero, suc, ◌+◌, ◌-◌, ◌*◌, ◌/◌, ◌%◌, Bool, ◌&&◌, List, [], ◌∷◌, ◌++◌, ltb, leb, eqb, length, get_or, take, drop, if◌then◌else◌}
 use Rattle.std.proofs.Math.Option.{Option, some, none}
-use Rattle.model.specs.Lists.{if◌then◌else◌, option, same}
+use Rattle.model.specs.Lists.{option, same}
 use Rattle.model.specs.Table.{Member, Table, formed}
 use Rattle.model.specs.Answer.{Answer, accepted, declined}
 

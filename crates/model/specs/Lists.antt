@@ -2,12 +2,6 @@
 use Rattle.std.specs.Prelude.{ℕ, ◌+◌, ◌-◌, Bool, true, false, ◌&&◌, ◌||◌, List, [], ◌∷◌, ◌++◌, ltb, eqb, length, get_or, take, drop}
 use Rattle.std.proofs.Math.Option.{Option, some, none}
 
-infix 5 if◌then◌else◌
--- the first value where the test holds, else the second
-abbrev pub if◌then◌else◌ : {A : Type 0} → Bool → A → A → A
-if true then a else b = a
-if false then a else b = b
-
 module _ {A : Type 0} where
   -- what f makes of a value, or d where there is none
   abbrev pub option : {B : Type 0} → Option A → B → (A → B) → B

@@ -1,6 +1,6 @@
 -- Document 02, Req 02: the test whether a member is a principal, pair by pair, which ends at the first pair that skips it.
-use Rattle.std.specs.Prelude.{ℕ, Bool, not, List, [], ◌∷◌, ◌++◌, length}
-use Rattle.model.specs.Lists.{if◌then◌else◌, any, bit}
+use Rattle.std.specs.Prelude.{ℕ, Bool, not, List, [], ◌∷◌, ◌++◌, length, if◌then◌else◌}
+use Rattle.model.specs.Lists.{any, bit}
 use Rattle.model.specs.Identifier.{between}
 use Rattle.model.specs.Table.{Member}
 

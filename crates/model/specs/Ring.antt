@@ -1,7 +1,7 @@
 -- Document 01, "The table", second part: live, principal, sound, the ring, and the ideal table.
-use Rattle.std.specs.Prelude.{ℕ, zero, suc, ◌+◌, Bool, false, not, ◌&&◌, ◌||◌, List, [], ◌∷◌, map, ltb, leb, eqb, length, get_or}
+use Rattle.std.specs.Prelude.{ℕ, zero, suc, ◌+◌, Bool, false, not, ◌&&◌, ◌||◌, List, [], ◌∷◌, map, ltb, leb, eqb, length, get_or, if◌then◌else◌}
 use Rattle.std.proofs.Math.Option.{Option, some, none}
-use Rattle.model.specs.Lists.{if◌then◌else◌, option, every, any, count, sum, contains, last_of, same}
+use Rattle.model.specs.Lists.{option, every, any, count, sum, contains, last_of, same}
 use Rattle.model.specs.Identifier.{between}
 use Rattle.model.specs.Table.{Member, idle, Table, ids}
 

@@ -1,6 +1,5 @@
 -- Document 02, Req 05: a member's turn, a round of turns, and rounds until the table is ideal; all made of the steps of Steps.
-use Rattle.std.specs.Prelude.{ℕ, zero, suc, Bool, List, [], ◌∷◌, eqb, get_or}
-use Rattle.model.specs.Lists.{if◌then◌else◌}
+use Rattle.std.specs.Prelude.{ℕ, zero, suc, Bool, List, [], ◌∷◌, eqb, get_or, if◌then◌else◌}
 use Rattle.model.specs.Table.{Table, ids}
 use Rattle.model.specs.Ring.{live, named, is_pending, verdict, passed_by_all}
 use Rattle.model.specs.Steps.{stabilize_reply, stabilized, rectified}

@@ -1,6 +1,6 @@
 -- Document 01, "The calls of a member": what each does to a member's record and to the table, and what it replies.
-use Rattle.std.specs.Prelude.{ℕ, zero, suc, ◌+◌, Bool, not, ◌||◌, List, [], ◌∷◌, ◌++◌, map, ltb, eqb, length, drop}
-use Rattle.model.specs.Lists.{if◌then◌else◌, option, select, bit, last_of, without_last}
+use Rattle.std.specs.Prelude.{ℕ, zero, suc, ◌+◌, Bool, not, ◌||◌, List, [], ◌∷◌, ◌++◌, map, ltb, eqb, length, drop, if◌then◌else◌}
+use Rattle.model.specs.Lists.{option, select, bit, last_of, without_last}
 use Rattle.model.specs.Identifier.{between, after}
 use Rattle.model.specs.Table.{Member, idle, Table, space_of, word_limit}
 use Rattle.model.specs.Ring.{live, named, successor, is_pending, principals, ring_members, verdict, best_successor, passed_by}

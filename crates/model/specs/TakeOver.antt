@@ -1,6 +1,6 @@
 -- Document 01, "Starting, saving, and the rest": which of two replies' lists a shelf takes over.
-use Rattle.std.specs.Prelude.{ℕ, Bool, ◌&&◌, List, ltb, length}
-use Rattle.model.specs.Lists.{if◌then◌else◌, without_last}
+use Rattle.std.specs.Prelude.{ℕ, Bool, ◌&&◌, List, ltb, length, if◌then◌else◌}
+use Rattle.model.specs.Lists.{without_last}
 use Rattle.model.specs.Identifier.{between}
 
 -- the list of c is chosen: it is nonempty, and between(own, c, h)

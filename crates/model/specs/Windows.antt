@@ -1,7 +1,7 @@
 -- Document 02, Req 09: service hours, as windows of the week, and how many rounds settle runs at the open minutes of a list.
-use Rattle.std.specs.Prelude.{ℕ, zero, suc, ◌%◌, Bool, true, false, ◌&&◌, ◌||◌, List, [], ◌∷◌, ltb, leb, eqb}
+use Rattle.std.specs.Prelude.{ℕ, zero, suc, ◌%◌, Bool, true, false, ◌&&◌, ◌||◌, List, [], ◌∷◌, ltb, leb, eqb, if◌then◌else◌}
 use Rattle.std.proofs.Math.Option.{Option, some, none}
-use Rattle.model.specs.Lists.{if◌then◌else◌, any, count}
+use Rattle.model.specs.Lists.{any, count}
 use Rattle.model.specs.Table.{Table}
 use Rattle.model.specs.Ring.{verdict}
 use Rattle.model.specs.Settle.{after_round, after_rounds, ran_reply}

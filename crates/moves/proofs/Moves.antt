@@ -9,7 +9,8 @@ use native.Mathlib.Omega.{arith}
 use borrow.Author.Tests.{ne_eqb}
 use lib.Dec.{eqb}
 use lib.ListN.{length, get_or}
-use Rattle.model.specs.Lists.{if◌then◌else◌, option}
+use Rattle.std.specs.Prelude.{if◌then◌else◌}
+use Rattle.model.specs.Lists.{option}
 use Rattle.model.specs.Table.{Member, members_in, ids}
 use Rattle.model.specs.Ring.{best_successor, on_ring, moves_from, moves_to_ring}
 use Rattle.table.specs.FormedWords.{FormedWords}

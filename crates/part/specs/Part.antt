@@ -1,7 +1,6 @@
 -- What a part of a line is, by the definitions of a session.
-use Rattle.std.specs.Prelude.{ℕ, suc, List, [], ◌∷◌, eqb}
+use Rattle.std.specs.Prelude.{ℕ, suc, List, [], ◌∷◌, eqb, if◌then◌else◌}
 use Rattle.std.proofs.Math.Option.{Option, some, none}
-use Rattle.model.specs.Lists.{if◌then◌else◌}
 use Rattle.script.specs.Lines.{value, is_number, word_among}
 use Rattle.script.specs.declared.Word.{Word}
 use Rattle.script.specs.declared.Word.TheVariants.{Out, Drop, Find, Audit}

@@ -11,7 +11,8 @@ use borrow.Author.Tests.{lt-ltb, le-ltb, le-leb, lt-leb}
 use lib.Dec.{ltb, leb, leb-suc-suc}
 use lib.ListN.{length, get_or, take, set, replicate, length-set}
 use lib.Seq.{get_or-set_other}
-use Rattle.model.specs.Lists.{if◌then◌else◌, any}
+use Rattle.std.specs.Prelude.{if◌then◌else◌}
+use Rattle.model.specs.Lists.{any}
 use Rattle.laws.specs.Order.{less?}
 use Rattle.principal.specs.Marks.{covered, Marks}
 

@@ -3,8 +3,7 @@
 // For the crates above, which hand over a well-formed table.
 #![tactic(auto)]
 
-ghost use Rattle.std.specs.Prelude.{◌≡◌, ◌&&◌, suc, ◌≤◌, ◌<◌, leb, ltb, length, get_or, replicate};
-ghost use Rattle.model.specs.Lists.{if◌then◌else◌};
+ghost use Rattle.std.specs.Prelude.{◌≡◌, ◌&&◌, suc, ◌≤◌, ◌<◌, leb, ltb, length, get_or, replicate, if◌then◌else◌};
 ghost use Rattle.model.specs.Identifier.{between};
 ghost use Rattle.model.specs.Table.{members_in, ids};
 ghost use Rattle.model.specs.Ring.{nobody, skips, principals};

@@ -8,7 +8,8 @@ use native.Mathlib.Numerals.{add-one}
 use native.Mathlib.Omega.{arith}
 use lib.ListN.{length, get_or, drop, length-take, length-drop, drop_of_length-le}
 use lib.Seq.{drop-cons, get_or-take, get_or-drop}
-use Rattle.model.specs.Lists.{if◌then◌else◌, any, bit}
+use Rattle.std.specs.Prelude.{if◌then◌else◌}
+use Rattle.model.specs.Lists.{any, bit}
 use Rattle.model.specs.Identifier.{between}
 use Rattle.model.specs.Table.{Member, header_size, record_size, members_in, ids}
 use Rattle.model.specs.Ring.{nobody}

@@ -1,6 +1,5 @@
 -- How far the test of a member goes through one list.
-use Rattle.std.specs.Prelude.{ℕ, suc, List, [], ◌∷◌}
-use Rattle.model.specs.Lists.{if◌then◌else◌}
+use Rattle.std.specs.Prelude.{ℕ, suc, List, [], ◌∷◌, if◌then◌else◌}
 use Rattle.model.specs.Pairs.{Pair, skipped_by}
 
 -- how many pairs come before the first that skips x; all of them if none does

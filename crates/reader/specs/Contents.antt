@@ -1,10 +1,9 @@
 -- What a reader hands out: the whole contents of the field that is due and stands at its position, or 9 and nothing. Assumes nothing.
-use Rattle.std.specs.Prelude.{ℕ, ◌+◌, ◌≤◌, ◌≡◌, refl, Bool, true, false, ◌&&◌, List, [], leb, length, get_or, take, drop}
+use Rattle.std.specs.Prelude.{ℕ, ◌+◌, ◌≤◌, ◌≡◌, refl, Bool, true, false, ◌&&◌, List, [], leb, length, get_or, take, drop, if◌then◌else◌}
 use Rattle.std.proofs.Common.{ap, arith, length-drop, length-take-le}
 use Rattle.std.proofs.Math.Option.{Option, some, none}
 use Rattle.std.proofs.Math.Dec.{eqb}
 use borrow.Author.Tests.{leb-true, le-leb, eqb-true}
-use Rattle.model.specs.Lists.{if◌then◌else◌}
 use Rattle.model.specs.Answer.{declined}
 use Rattle.model.specs.Image.{Due, field_head, number_at, due, field_stands, field_answer, field_at}
 use Rattle.laws.specs.Lists.{and-true}

@@ -1,6 +1,5 @@
 -- What the answer of a reader says of the image: where the reader stands afterwards, and the part that is the contents of a field.
-use Rattle.std.specs.Prelude.{ℕ, ◌+◌, List, [], leb, length, get_or, take, drop}
-use Rattle.model.specs.Lists.{if◌then◌else◌}
+use Rattle.std.specs.Prelude.{ℕ, ◌+◌, List, [], leb, length, get_or, take, drop, if◌then◌else◌}
 use Rattle.model.specs.Answer.{Answer}
 use Rattle.model.specs.Image.{field_at}
 use Rattle.reader.specs.declared.Reader.{Reader}

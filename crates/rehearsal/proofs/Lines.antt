@@ -7,7 +7,7 @@ use native.Mathlib.Omega.{arith}
 use lib.Dec.{eqb}
 use lib.ListN.{length, take, drop, drop_of_length-le}
 use lib.Seq.{take_all, length-take-le}
-use Rattle.model.specs.Lists.{if◌then◌else◌}
+use Rattle.std.specs.Prelude.{if◌then◌else◌}
 use Rattle.script.specs.Lines.{on_first, counted, lines}
 use Rattle.part.specs.Part.{reach}
 use Rattle.rehearsal.specs.Outcomes.{Passed}

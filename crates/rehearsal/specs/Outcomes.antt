@@ -1,6 +1,6 @@
 -- What `session` gives, for every input: ten bytes of output for each input byte that counts, and ten more, are enough.
-use Rattle.std.specs.Prelude.{ℕ, ◌+◌, ◌*◌, ◌≤◌, ◌<◌, ◌≡◌, Bool, List, ◌∷◌, leb, length, take, drop}
-use Rattle.model.specs.Lists.{if◌then◌else◌, overlay}
+use Rattle.std.specs.Prelude.{ℕ, ◌+◌, ◌*◌, ◌≤◌, ◌<◌, ◌≡◌, Bool, List, ◌∷◌, leb, length, take, drop, if◌then◌else◌}
+use Rattle.model.specs.Lists.{overlay}
 use Rattle.script.specs.Lines.{counted, lines}
 use Rattle.script.specs.Session.{session_text, session_words}
 use Rattle.rehearsal.specs.declared.Outcome.{Outcome}

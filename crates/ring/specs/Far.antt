@@ -1,6 +1,6 @@
 -- Moves made often enough by places, and the places they lead to: those of the members on the ring.
-use Rattle.std.specs.Prelude.{ℕ, ◌≤◌, ◌<◌, ◌≡◌, List, ltb, length, get_or, take}
-use Rattle.model.specs.Lists.{if◌then◌else◌, bit, contains}
+use Rattle.std.specs.Prelude.{ℕ, ◌≤◌, ◌<◌, ◌≡◌, List, ltb, length, get_or, take, if◌then◌else◌}
+use Rattle.model.specs.Lists.{bit, contains}
 use Rattle.model.specs.Table.{Member, members_in}
 use Rattle.model.specs.Ring.{on_ring}
 use Rattle.laws.specs.Iterate.{iterate}

@@ -10,7 +10,8 @@ use lib.Dec.{eqb}
 use lib.ListN.{length, take, drop, take-append-drop, length-append}
 use lib.Seq.{take_all, get_or-take, length-take-le}
 use borrow.Author.Tests.{eqb-true, leb-true, lt-leb}
-use Rattle.model.specs.Lists.{if◌then◌else◌, every, same}
+use Rattle.std.specs.Prelude.{if◌then◌else◌}
+use Rattle.model.specs.Lists.{every, same}
 use Rattle.model.specs.Answer.{declined}
 use Rattle.model.specs.Refusals.{no_new_table, new_refusal}
 use Rattle.model.specs.Calls.{new_answer, new_words}

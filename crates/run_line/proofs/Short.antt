@@ -8,7 +8,8 @@ use native.Mathlib.Omega.{arith}
 use lib.Dec.{eqb}
 use lib.ListN.{length, get_or, drop, replicate, length-append}
 use lib.Seq.{length-take-le}
-use Rattle.model.specs.Lists.{if◌then◌else◌, option}
+use Rattle.std.specs.Prelude.{if◌then◌else◌}
+use Rattle.model.specs.Lists.{option}
 use Rattle.model.specs.Identifier.{between}
 use Rattle.model.specs.Table.{Member, members_in}
 use Rattle.model.specs.Ring.{live, named, successor, is_pending, best_successor, passed_by}

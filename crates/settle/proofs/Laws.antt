@@ -8,7 +8,8 @@ use lib.Dec.{ltb, eqb}
 use lib.ListN.{length, get_or, drop, drop_of_length-le}
 use lib.Seq.{drop-cons}
 use borrow.Author.Tests.{ltb-true, ne_eqb, not-false}
-use Rattle.model.specs.Lists.{if◌then◌else◌, every, rising}
+use Rattle.std.specs.Prelude.{if◌then◌else◌}
+use Rattle.model.specs.Lists.{every, rising}
 use Rattle.model.specs.Table.{Table, table_of, members_in, well_formed}
 use Rattle.model.specs.Ring.{sound, verdict, passed_by_all}
 use Rattle.model.specs.Answer.{Answer, declined, answer, afterwards}

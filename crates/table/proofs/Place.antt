@@ -9,7 +9,8 @@ use native.Mathlib.Omega.{arith}
 use borrow.Author.Tests.{ltb-true, ltb-false, eqb-true, eqb-false, lt-ltb, le-ltb, le-leb, lt-leb, eq-eqb, ne_eqb}
 use lib.Dec.{ltb, leb, eqb, leb-suc-suc}
 use lib.ListN.{length, get_or, take, drop}
-use Rattle.model.specs.Lists.{if◌then◌else◌, contains, rising, rising_from}
+use Rattle.std.specs.Prelude.{if◌then◌else◌}
+use Rattle.model.specs.Lists.{contains, rising, rising_from}
 use Rattle.model.specs.Table.{Member, header_size, table_of, members_in, ids}
 use Rattle.model.specs.Ring.{live, named, nobody}
 use Rattle.model.specs.Steps.{inserted, replaced, is_named, staying}

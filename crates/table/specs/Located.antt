@@ -1,6 +1,5 @@
 -- The place of an identifier in a table: where its member stands, or where it is missing.
-use Rattle.std.specs.Prelude.{ℕ, ◌<◌, ◌≡◌, List, get_or}
-use Rattle.model.specs.Lists.{if◌then◌else◌}
+use Rattle.std.specs.Prelude.{ℕ, ◌<◌, ◌≡◌, List, get_or, if◌then◌else◌}
 use Rattle.model.specs.Table.{members_in, ids}
 use Rattle.model.specs.Ring.{live}
 use Rattle.table.specs.Rank.{rank}

@@ -1,6 +1,5 @@
 -- The place of an identifier among members by rising identifier.
-use Rattle.std.specs.Prelude.{ℕ, suc, List, [], ◌∷◌, ltb}
-use Rattle.model.specs.Lists.{if◌then◌else◌}
+use Rattle.std.specs.Prelude.{ℕ, suc, List, [], ◌∷◌, ltb, if◌then◌else◌}
 
 -- how many of the rising identifiers are below x
 abbrev pub rank : List ℕ → ℕ → ℕ

@@ -1,7 +1,7 @@
 -- Alike, stated (document 02, Req 08): what a yes means, and what a no may tell. With model this is all that its reader must believe; AlikeProof proves the first,
 -- Unlike the second.
-use Rattle.std.specs.Prelude.{ℕ, ◌≡◌, true, List, [], ◌∷◌, ltb, eqb, length}
-use Rattle.model.specs.Lists.{if◌then◌else◌, every}
+use Rattle.std.specs.Prelude.{ℕ, ◌≡◌, true, List, [], ◌∷◌, ltb, eqb, length, if◌then◌else◌}
+use Rattle.model.specs.Lists.{every}
 use Rattle.model.specs.Table.{space_of, table_of, members_in, ids, well_formed}
 use Rattle.model.specs.Ring.{live, named}
 use Rattle.model.specs.Answer.{accepted}

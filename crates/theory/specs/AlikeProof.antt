@@ -1,12 +1,12 @@
 -- The proof of what Alike states: a table tells what it tells without its counts (laws, Uncounted), and so do two that differ in their counts alone, call by call.
-use Rattle.std.specs.Prelude.{◌≡◌, Bool, true, false, ◌&&◌, ◌||◌, ℕ, zero, suc, ◌+◌, ◌-◌, ◌*◌, ◌<◌, eqb, get_or}
+use Rattle.std.specs.Prelude.{◌≡◌, Bool, true, false, ◌&&◌, ◌||◌, ℕ, zero, suc, ◌+◌, ◌-◌, ◌*◌, ◌<◌, eqb, get_or, if◌then◌else◌}
 use Rattle.std.proofs.Math.Path.{refl, ap, subst}
 use Rattle.std.proofs.Common.{sym, ap₂, ◌∙◌, arith, ltb-true}
 use Rattle.std.proofs.Math.Bool.{not}
 use mathlib.Core.List.{List, [], ◌∷◌}
 use Rattle.std.proofs.Math.Dec.{ltb, leb}
 use Rattle.std.proofs.Math.ListN.{length}
-use Rattle.model.specs.Lists.{if◌then◌else◌, every, any, bit, contains, rising, same, overlay}
+use Rattle.model.specs.Lists.{every, any, bit, contains, rising, same, overlay}
 use Rattle.model.specs.Identifier.{between}
 use Rattle.model.specs.Table.{Member, Table, space_of, header_size, record_size, table_of, members_in, ids, well_formed}
 use Rattle.model.specs.Ring.{live, named, successor, is_pending, has_live, principals, sound, verdict, passed_by_all}

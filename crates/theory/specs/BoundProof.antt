@@ -1,8 +1,8 @@
 -- The proof of settle's bound: Far's rounds and one more until no successor is wrong, then Right's until no entry is; and what that says of slices.
-use Rattle.std.specs.Prelude.{◌≡◌, refl, Bool, true, false, not, List, [], ◌∷◌, ℕ, zero, suc, ◌+◌, ◌-◌, ◌*◌, ◌≤◌, ◌<◌, eqb, length, get_or, take, drop}
+use Rattle.std.specs.Prelude.{◌≡◌, refl, Bool, true, false, not, List, [], ◌∷◌, ℕ, zero, suc, ◌+◌, ◌-◌, ◌*◌, ◌≤◌, ◌<◌, eqb, length, get_or, take, drop, if◌then◌else◌}
 use Rattle.std.proofs.Common.{sym, ap, ap₂, subst, ◌∙◌, arith, eqb-true}
 use Rattle.std.proofs.lemmas.Bool.{false≢true, eqb-false}
-use Rattle.model.specs.Lists.{if◌then◌else◌, every, count}
+use Rattle.model.specs.Lists.{every, count}
 use Rattle.model.specs.Table.{Table, table_with, size, table_of, members_in, ids}
 use Rattle.model.specs.Ring.{named, principal, ideal, verdict, next_up, passed_by_all}
 use Rattle.model.specs.Answer.{Answer, accepted}

@@ -1,13 +1,12 @@
 -- A turn of n on a sound table: its steps end with "done", never by the bound; and it leaves n calm, with a live successor that n has met and nothing
 -- pending. So n stays, through the turns of others.
-use Rattle.std.specs.Prelude.{◌≡◌, ◌⊎◌, Bool, not, ◌||◌, ℕ, zero, suc, ◌≤◌}
+use Rattle.std.specs.Prelude.{◌≡◌, ◌⊎◌, Bool, not, ◌||◌, ℕ, zero, suc, ◌≤◌, if◌then◌else◌}
 use Rattle.std.proofs.Math.Path.{refl, ap}
 use Rattle.std.proofs.Common.{sym, ◌∙◌, inl, inr, true≢false, arith}
 use Rattle.std.proofs.Math.Bool.{true, false}
 use mathlib.Core.List.{List}
 use Rattle.std.proofs.Math.Dec.{eqb}
 use Rattle.std.proofs.Math.ListN.{get_or}
-use Rattle.model.specs.Lists.{if◌then◌else◌}
 use Rattle.model.specs.Identifier.{between}
 use Rattle.model.specs.Table.{Member, Table, space_of, ids}
 use Rattle.model.specs.Ring.{live, named, successor, is_pending}

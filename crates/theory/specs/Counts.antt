@@ -1,6 +1,6 @@
 -- Step counts, stated (document 02, Req 07): which calls change a member's count, and by how much. With model this is all that its reader must believe; CountsProof proves it.
-use Rattle.std.specs.Prelude.{ℕ, zero, suc, ◌+◌, ◌*◌, ◌≤◌, ◌<◌, ◌≡◌, Bool, true, ◌&&◌, List, [], ◌∷◌, ltb, eqb, length, get_or}
-use Rattle.model.specs.Lists.{if◌then◌else◌, bit}
+use Rattle.std.specs.Prelude.{ℕ, zero, suc, ◌+◌, ◌*◌, ◌≤◌, ◌<◌, ◌≡◌, Bool, true, ◌&&◌, List, [], ◌∷◌, ltb, eqb, length, get_or, if◌then◌else◌}
+use Rattle.model.specs.Lists.{bit}
 use Rattle.model.specs.Table.{Table, word_limit, table_of, members_in, ids, formed, well_formed}
 use Rattle.model.specs.Ring.{live, named, is_pending, sound}
 use Rattle.model.specs.Steps.{stabilized}

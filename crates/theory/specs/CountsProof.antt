@@ -1,5 +1,5 @@
 -- The proof of what Counts states: a stabilize step counts in its own member's record, and nothing else writes a count.
-use Rattle.std.specs.Prelude.{◌≡◌, ◌⊎◌, Bool, List, [], ◌∷◌, length}
+use Rattle.std.specs.Prelude.{◌≡◌, ◌⊎◌, Bool, List, [], ◌∷◌, length, if◌then◌else◌}
 use Rattle.std.proofs.Math.Path.{refl, ap, subst}
 use Rattle.std.proofs.Common.{sym, ◌∙◌, inl, inr, suc-mul}
 use Rattle.std.proofs.Math.Bool.{true, false, true≢false}
@@ -7,7 +7,7 @@ use Prim.Native.Nat.{ℕ, zero, suc, ◌+◌, ◌*◌, ◌≤◌, ◌<◌}
 use native.Mathlib.Omega.{arith}
 use Rattle.std.proofs.Math.Dec.{eqb}
 use borrow.Author.Tests.{eqb-true, eqb-false, ne_eqb, lt-ltb, le-ltb}
-use Rattle.model.specs.Lists.{if◌then◌else◌, bit}
+use Rattle.model.specs.Lists.{bit}
 use Rattle.model.specs.Table.{Member, Table, space_of, word_limit, table_of, members_in, ids, well_formed}
 use Rattle.model.specs.Ring.{live, named, is_pending, sound}
 use Rattle.model.specs.Answer.{afterwards}

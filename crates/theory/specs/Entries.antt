@@ -1,9 +1,9 @@
 -- One successor list: what its pairs skip, that it goes once round at most and in ring order, and that its first live entry passes no principal.
-use Rattle.std.specs.Prelude.{◌≡◌, refl, ◌⊎◌, Bool, true, false, not, ◌||◌, List, [], ◌∷◌, ℕ, zero, suc, ◌+◌, ◌≤◌, ◌<◌, length, get_or}
+use Rattle.std.specs.Prelude.{◌≡◌, refl, ◌⊎◌, Bool, true, false, not, ◌||◌, List, [], ◌∷◌, ℕ, zero, suc, ◌+◌, ◌≤◌, ◌<◌, length, get_or, if◌then◌else◌}
 use Rattle.std.proofs.Common.{sym, ap, ◌∙◌, inl, inr, true≢false, arith}
 use Rattle.std.proofs.lemmas.Bool.{false≢true, not-true}
 use Rattle.std.proofs.Math.Option.{some}
-use Rattle.model.specs.Lists.{if◌then◌else◌, any}
+use Rattle.model.specs.Lists.{any}
 use Rattle.model.specs.Table.{Member, ids}
 use Rattle.model.specs.Ring.{live, named, skips, principal, first_live}
 use Rattle.laws.specs.Order.{Inside, Outside, inside?, inside_true, outside_false, inside_outside, outside_join, Before, Placed, earlier, together, later, placed, before_trans, before_irrefl, before_start, before_inside, stay_passes, back_passes}

@@ -1,7 +1,7 @@
 -- Each step keeps a table well-formed, sound or not: the record that it writes is right. And what an accepted call leaves in a slice: its table, well-formed.
-use Rattle.std.specs.Prelude.{◌≡◌, refl, ◌⊎◌, Bool, true, false, List, [], ◌∷◌, ◌++◌, ℕ, suc, ◌+◌, ◌-◌, ◌*◌, ◌≤◌, ◌<◌, length, drop, ltb}
+use Rattle.std.specs.Prelude.{◌≡◌, refl, ◌⊎◌, Bool, true, false, List, [], ◌∷◌, ◌++◌, ℕ, suc, ◌+◌, ◌-◌, ◌*◌, ◌≤◌, ◌<◌, length, drop, ltb, if◌then◌else◌}
 use Rattle.std.proofs.Common.{sym, ap, ◌∙◌, inl, inr, ⊎_elim, true≢false, arith, length-take, length-append, ltb-true}
-use Rattle.model.specs.Lists.{if◌then◌else◌, last_of, without_last}
+use Rattle.model.specs.Lists.{last_of, without_last}
 use Rattle.model.specs.Identifier.{after}
 use Rattle.model.specs.Table.{Member, Table, space_of, word_limit, header_size, record_size, size, table_of, members_in, ids, well_formed}
 use Rattle.model.specs.Ring.{live, named, successor}

@@ -1,9 +1,8 @@
 -- By whom to join. Where find of j replies and j is no member, the member that it stands at is one to join by: behind a live first entry nothing
 -- but 5 declines the join, and on an ideal table each first entry is live.
-use Rattle.std.specs.Prelude.{ℕ, zero, suc, ◌≡◌, refl, ◌⊎◌, Bool, true, false, not, ◌&&◌, List, [], ◌∷◌, get_or}
+use Rattle.std.specs.Prelude.{ℕ, zero, suc, ◌≡◌, refl, ◌⊎◌, Bool, true, false, not, ◌&&◌, List, [], ◌∷◌, get_or, if◌then◌else◌}
 use Rattle.std.proofs.Common.{sym, ap, subst, ◌∙◌, inl, inr, true≢false, arith}
 use Rattle.std.proofs.Math.Option.{some}
-use Rattle.model.specs.Lists.{if◌then◌else◌}
 use Rattle.model.specs.Identifier.{between}
 use Rattle.model.specs.Table.{Member, table_of, members_in, well_formed}
 use Rattle.model.specs.Ring.{live, named, successor, Search, searched, best_successor, ideal}

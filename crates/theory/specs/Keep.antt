@@ -1,8 +1,8 @@
 -- One lemma for all steps: a table keeps well-formed and sound if its members are the old ones and at most one fresh record. And where each record is then found.
-use Rattle.std.specs.Prelude.{◌≡◌, refl, ◌⊎◌, Bool, true, false, not, List, [], ◌∷◌, ℕ, suc, ◌≤◌, ◌<◌, length, ltb, eqb}
+use Rattle.std.specs.Prelude.{◌≡◌, refl, ◌⊎◌, Bool, true, false, not, List, [], ◌∷◌, ℕ, suc, ◌≤◌, ◌<◌, length, ltb, eqb, if◌then◌else◌}
 use Rattle.std.proofs.Common.{sym, ap, ◌∙◌, inl, inr, ⊎_elim, arith, eqb-true, eq-eqb, ne_eqb, ltb-true, ltb-false}
 use Rattle.std.proofs.lemmas.Bool.{eqb-false}
-use Rattle.model.specs.Lists.{if◌then◌else◌, any, count}
+use Rattle.model.specs.Lists.{any, count}
 use Rattle.model.specs.Table.{Member, Table, space_of, ids}
 use Rattle.model.specs.Ring.{live, named, skips, principal, has_live, candidate_inside}
 use Rattle.model.specs.Steps.{with_members, inserted, replaced}

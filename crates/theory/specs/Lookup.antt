@@ -1,10 +1,10 @@
 -- What a lookup answers, on every table: the owner of the key after fewer moves than there are members, or a member whose list has no live entry.
 -- So the bound in its definition is never what ends the walk.
-use Rattle.std.specs.Prelude.{◌≡◌, refl, ◌⊎◌, Bool, true, false, ◌||◌, List, [], ◌∷◌, ℕ, zero, suc, ◌+◌, ◌<◌, eqb, length}
+use Rattle.std.specs.Prelude.{◌≡◌, refl, ◌⊎◌, Bool, true, false, ◌||◌, List, [], ◌∷◌, ℕ, zero, suc, ◌+◌, ◌<◌, eqb, length, if◌then◌else◌}
 use Rattle.std.proofs.Common.{sym, ap, ◌∙◌, inl, inr, arith, eqb-true}
 use Rattle.std.proofs.Math.Option.{Option, some, none}
 use Rattle.std.proofs.lemmas.Bool.{eqb-false}
-use Rattle.model.specs.Lists.{if◌then◌else◌, option, count}
+use Rattle.model.specs.Lists.{option, count}
 use Rattle.model.specs.Identifier.{between}
 use Rattle.model.specs.Table.{Member, members_in, ids}
 use Rattle.model.specs.Ring.{live, named, best_successor, passed_by, moved}

@@ -1,9 +1,9 @@
 -- An accepted loss, and the audit after it. On a sound table: the verdict after it is 0 exactly where no withdrawal would have been granted. Where one
 -- would have been, it would have left the same words.
-use Rattle.std.specs.Prelude.{◌≡◌, refl, Bool, true, false, not, List, ℕ, ◌+◌, eqb, ltb}
+use Rattle.std.specs.Prelude.{◌≡◌, refl, Bool, true, false, not, List, ℕ, ◌+◌, eqb, ltb, if◌then◌else◌}
 use Rattle.std.proofs.Common.{sym, ap, ◌∙◌, arith, eqb-true, ltb-true}
 use Rattle.std.proofs.lemmas.Bool.{eqb-false}
-use Rattle.model.specs.Lists.{if◌then◌else◌, every}
+use Rattle.model.specs.Lists.{every}
 use Rattle.model.specs.Table.{Member, table_of, members_in, well_formed}
 use Rattle.model.specs.Ring.{live, has_live, principals, sound, verdict}
 use Rattle.model.specs.Steps.{without}

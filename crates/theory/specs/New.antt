@@ -1,12 +1,12 @@
 -- The new table is well-formed, sound and ideal: no member lies between one of them and the next up.
-use Rattle.std.specs.Prelude.{◌≡◌, refl, ◌⊎◌, Bool, false, not, List, [], ◌∷◌, map, ℕ, zero, suc, ◌+◌, ◌≤◌, ◌<◌, length, get_or, ltb}
+use Rattle.std.specs.Prelude.{◌≡◌, refl, ◌⊎◌, Bool, false, not, List, [], ◌∷◌, map, ℕ, zero, suc, ◌+◌, ◌≤◌, ◌<◌, length, get_or, ltb, if◌then◌else◌}
 use Rattle.std.proofs.Math.Path.{ap}
 use Rattle.std.proofs.Common.{◌∙◌, inl, inr, ⊎_elim, ltb-true, ltb-false, lt-ltb, le-ltb, leb-true}
 use Rattle.std.proofs.Math.Bool.{true}
 use native.Mathlib.Omega.{arith}
 use Rattle.std.proofs.lemmas.List.{length-map}
 use Rattle.std.proofs.lemmas.Bool.{not-false}
-use Rattle.model.specs.Lists.{if◌then◌else◌, every, count, last_of}
+use Rattle.model.specs.Lists.{every, count, last_of}
 use Rattle.model.specs.Table.{Member, space_of, ids, size, table_of}
 use Rattle.model.specs.Ring.{live, skips, principal, has_live, candidate_inside, first_above, last_below, next_up, next_down, next_ups, ideal, verdict}
 use Rattle.model.specs.New.{new_member, new_table}

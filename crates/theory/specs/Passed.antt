@@ -1,9 +1,9 @@
 -- Document 02, Req 06, on every table: the entries that a search passes over are dead, and the next one is the best successor; find's other values are
 -- what they were before the request; on an ideal table nothing is passed over.
-use Rattle.std.specs.Prelude.{ℕ, zero, suc, ◌+◌, ◌<◌, ◌≡◌, refl, Bool, true, false, ◌||◌, List, [], ◌∷◌, map, eqb, length, get_or, take}
+use Rattle.std.specs.Prelude.{ℕ, zero, suc, ◌+◌, ◌<◌, ◌≡◌, refl, Bool, true, false, ◌||◌, List, [], ◌∷◌, map, eqb, length, get_or, take, if◌then◌else◌}
 use Rattle.std.proofs.Common.{sym, ap, ◌∙◌, inl, inr, arith}
 use Rattle.std.proofs.Math.Option.{Option, some, none}
-use Rattle.model.specs.Lists.{if◌then◌else◌, option, sum}
+use Rattle.model.specs.Lists.{option, sum}
 use Rattle.model.specs.Identifier.{between}
 use Rattle.model.specs.Table.{Member, Table, table_of, members_in, ids, well_formed}
 use Rattle.model.specs.Ring.{live, named, successor, Search, past, searched, first_live, best_successor, passed_by, passed_by_all, principal, sound, ideal, verdict}

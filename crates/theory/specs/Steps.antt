@@ -1,11 +1,11 @@
 -- Each step of a member keeps a table well-formed and sound: the record it writes is fresh.
-use Rattle.std.specs.Prelude.{◌≡◌, Bool, not, ◌||◌, ℕ, ◌-◌, ◌≤◌, ◌<◌, length, get_or, drop, eqb}
+use Rattle.std.specs.Prelude.{◌≡◌, Bool, not, ◌||◌, ℕ, ◌-◌, ◌≤◌, ◌<◌, length, get_or, drop, eqb, if◌then◌else◌}
 use Rattle.std.proofs.Math.Path.{refl}
 use Rattle.std.proofs.Common.{sym, ◌∙◌, arith}
 use Rattle.std.proofs.Math.Bool.{true, false, true≢false}
 use Rattle.std.proofs.lemmas.Bool.{false≢true, not-true}
 use mathlib.Core.List.{List, [], ◌∷◌, ◌++◌}
-use Rattle.model.specs.Lists.{if◌then◌else◌, any, last_of}
+use Rattle.model.specs.Lists.{any, last_of}
 use Rattle.model.specs.Identifier.{between, after}
 use Rattle.model.specs.Table.{Member, Table, space_of, ids}
 use Rattle.model.specs.Ring.{live, named, successor, skips, principal, is_pending, candidate_inside}

@@ -1,10 +1,10 @@
 -- What the steps and notices of one member n may change of a table, and so a turn of n, and turns of several members: sound stays sound, the
 -- principals stay principals, no other member's list or pending moves, and a live predecessor gives way only to a member between.
-use Rattle.std.specs.Prelude.{◌≡◌, ◌⊎◌, Bool, not, ◌||◌, List, [], ◌∷◌, ℕ, zero, suc, ◌<◌, eqb, length}
+use Rattle.std.specs.Prelude.{◌≡◌, ◌⊎◌, Bool, not, ◌||◌, List, [], ◌∷◌, ℕ, zero, suc, ◌<◌, eqb, length, if◌then◌else◌}
 use Rattle.std.proofs.Math.Path.{refl}
 use Rattle.std.proofs.Common.{sym, ap, subst, ◌∙◌, inl, inr}
 use Rattle.std.proofs.Math.Bool.{true, false}
-use Rattle.model.specs.Lists.{if◌then◌else◌, contains}
+use Rattle.model.specs.Lists.{contains}
 use Rattle.model.specs.Identifier.{between}
 use Rattle.model.specs.Table.{Member, Table, space_of, size, ids}
 use Rattle.model.specs.Ring.{live, named, is_pending, principal}

@@ -1,8 +1,8 @@
 -- The proof of what Alike states of a no: a difference in predecessors, one of which is a member, is told by a loss and a notice.
-use Rattle.std.specs.Prelude.{◌≡◌, refl, Bool, true, false, not, ◌||◌, List, [], ◌∷◌, ℕ, zero, suc, eqb, get_or}
+use Rattle.std.specs.Prelude.{◌≡◌, refl, Bool, true, false, not, ◌||◌, List, [], ◌∷◌, ℕ, zero, suc, eqb, get_or, if◌then◌else◌}
 use Rattle.std.proofs.Common.{sym, ap, subst, ◌∙◌, arith, eqb-true}
 use Rattle.std.proofs.lemmas.Bool.{eqb-false, not-true}
-use Rattle.model.specs.Lists.{if◌then◌else◌, contains, bit}
+use Rattle.model.specs.Lists.{contains, bit}
 use Rattle.model.specs.Identifier.{between}
 use Rattle.model.specs.Table.{Member, Table, table_of, members_in, ids, well_formed}
 use Rattle.model.specs.Ring.{live, named}

@@ -1,7 +1,6 @@
 -- Service hours, stated (document 02, Req 09): the next open minute is the first, and settle with windows is made of rounds and ends. With model and Bound this is
 -- all that its reader must believe; WindowsProof proves it.
-use Rattle.std.specs.Prelude.{ℕ, ◌+◌, ◌≤◌, ◌<◌, ◌≡◌, true, false, not, ◌&&◌, List, [], ◌∷◌, eqb}
-use Rattle.model.specs.Lists.{if◌then◌else◌}
+use Rattle.std.specs.Prelude.{ℕ, ◌+◌, ◌≤◌, ◌<◌, ◌≡◌, true, false, not, ◌&&◌, List, [], ◌∷◌, eqb, if◌then◌else◌}
 use Rattle.model.specs.Table.{table_of, well_formed}
 use Rattle.model.specs.Ring.{sound, verdict}
 use Rattle.model.specs.Answer.{accepted}

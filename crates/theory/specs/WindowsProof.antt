@@ -1,8 +1,8 @@
 -- The proof of what Windows states: a search of a week meets every minute of it, so also a window's start; and settle with windows is settle (laws, Windows).
-use Rattle.std.specs.Prelude.{◌≡◌, refl, ◌⊎◌, Bool, true, false, not, ◌&&◌, ◌||◌, List, [], ◌∷◌, ℕ, suc, ◌+◌, ◌-◌, ◌≤◌, ◌<◌, leb, eqb, get_or}
+use Rattle.std.specs.Prelude.{◌≡◌, refl, ◌⊎◌, Bool, true, false, not, ◌&&◌, ◌||◌, List, [], ◌∷◌, ℕ, suc, ◌+◌, ◌-◌, ◌≤◌, ◌<◌, leb, eqb, get_or, if◌then◌else◌}
 use Rattle.std.proofs.Common.{sym, ap, subst, ◌∙◌, inl, inr, true≢false, arith, eqb-true, leb-false}
 use Rattle.std.proofs.Math.Option.{some, none}
-use Rattle.model.specs.Lists.{if◌then◌else◌, option, every, bit}
+use Rattle.model.specs.Lists.{option, every, bit}
 use Rattle.model.specs.Table.{Table, table_of}
 use Rattle.model.specs.Ring.{verdict}
 use Rattle.model.specs.Answer.{Answer, accepted, answer}

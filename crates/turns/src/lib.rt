@@ -1,8 +1,7 @@
 // A member's turn, and a round of turns, on a table known to be well-formed and sound: nothing is tested again. For the crates above.
 #![tactic(auto)]
 
-ghost use Rattle.std.specs.Prelude.{◌≡◌, suc, ◌<◌, get_or};
-ghost use Rattle.model.specs.Lists.{if◌then◌else◌};
+ghost use Rattle.std.specs.Prelude.{◌≡◌, suc, ◌<◌, get_or, if◌then◌else◌};
 ghost use Rattle.model.specs.Table.{table_of, members_in, ids};
 ghost use Rattle.model.specs.Ring.{is_pending, nobody};
 ghost use Rattle.model.specs.Steps.{stabilized};

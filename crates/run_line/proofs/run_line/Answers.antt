@@ -1,5 +1,6 @@
 -- `run_line` meets its contract. A readable line has five bytes at least, so that its answer has room. Assumes nothing.
-use Prim.Native.Nat.{◌≤◌}
+use Prim.Native.Nat.{ℕ, ◌+◌, ◌*◌, ◌≤◌}
+use mathlib.Core.List.{List}
 use mathlib.Core.Path.{◌≡◌, sym, ap, ◌∙◌}
 use native.Mathlib.Omega.{arith}
 use lib.ListN.{length, take}
@@ -16,75 +17,57 @@ use Rattle.run_line.proofs.Sizes.{answered_most, unread_most}
 use Rattle.run_line.proofs.Readable.{Asked, asked_line, unread_line}
 use Rattle.run_line.proofs.run_line.Goals as goal
 
-  most : length (answered entry.args.n word.w.given.0.0 (unpacked d.call.result)) ≤ 60
-  most = rw whole (answered_most entry.args.n word.w.given.0.0 told entry.pre.0
-      (short_word entry.args.t.now word.w.given.0.0 (take (count word) (line word).read.last.1.0)))
-
-  whole : unpacked d.call.result ≡ told
-  whole = says_whole d.call.result told d.call.ensures.0
-
-  abbrev told : Answer
-  told = word_answer entry.args.t.now word.w.given.0.0 (take (count word) (line word).read.last.1.0)
-
-  abbrev entry : tie.Start
-  entry = start (line word)
-
--- the call's answer, told whole
-module _ (d : tie.After-call) where
-  abbrev word : tie.After-w
-  word = d.before.before.before.before
-
 pub slice_bounds-xs-end : goal.slice_bounds-xs-end
 slice_bounds-xs-end c =
-    let count = (c.w-1.given.0.1.0) in
-    let within : count ≤ length c.read.new.xs = (
-        let k : count ≤ 258 = rw c.in-Asks.is at c.read.ensures.1 in
-    let e : length c.read.new.xs ≡ 258 = c.read.auto.1.0 in
-    omega arith) in
+    let k : c.in-Asks.k ≤ 258 = rw c.in-Asks.is at c.read.ensures.1 in
+    let e : length c.read.new.xs ≡ 258 = c.read.auto.xs in
+    let within : c.in-Asks.k ≤ length c.read.new.xs = omega arith in
     within
 
 pub slice_bounds-call-end : goal.slice_bounds-call-end
 slice_bounds-call-end c =
-    let count = (c.w-1.given.0.1.0) in
-    let within : count ≤ length c.read.new.xs = (
-        let k : count ≤ 258 = rw c.in-Asks.is at c.read.ensures.1 in
-    let e : length c.read.new.xs ≡ 258 = c.read.auto.1.0 in
-    omega arith) in
-    sym (length-take-le count c.read.new.xs within)
+    let k : c.in-Asks.k ≤ 258 = rw c.in-Asks.is at c.read.ensures.1 in
+    let e : length c.read.new.xs ≡ 258 = c.read.auto.xs in
+    let within : c.in-Asks.k ≤ length c.read.new.xs = omega arith in
+    sym (length-take-le c.in-Asks.k c.read.new.xs within)
 
 pub call-a-requires : goal.call-a-requires
 call-a-requires c =
-    let count = (c.w-1.given.0.1.0) in
-    let asked : let a = c.args in Asked a.n a.t.now a.l.now c.in-Asks.w (take count c.read.new.xs) = (
-        let a = c.args in
-    asked_line a.n a.t.now a.l.now c.in-Asks.w (take count c.read.last.1.0)
-    (ap (λ (x : Line). viewed x c.read.last.1.0) (sym c.in-Asks.is) ∙ c.read.ensures.0)) in
+    let a = c.args in
+    let asked : Asked a.n a.t.now a.l.now c.in-Asks.w (take c.in-Asks.k c.read.new.xs) =
+        asked_line a.n a.t.now a.l.now c.in-Asks.w (take c.in-Asks.k c.read.new.xs)
+        (ap (λ (x : Line). viewed x c.read.new.xs) (sym c.in-Asks.is) ∙ c.read.ensures.0) in
     asked.own
 
 pub answered-requires : goal.answered-requires
 answered-requires c =
-    let count = (c.w-1.given.0.1.0) in
-    let asked : let a = c.args in Asked a.n a.t.now a.l.now c.in-Asks.w (take count c.read.new.xs) = (
-        let a = c.args in
-    asked_line a.n a.t.now a.l.now c.in-Asks.w (take count c.read.last.1.0)
-    (ap (λ (x : Line). viewed x c.read.last.1.0) (sym c.in-Asks.is) ∙ c.read.ensures.0)) in
-    let s = entry d in
-    (says_few c.call-a.ensures.0, omega (arith, (asked (word d)).long, s.pre, most d))
+    let a = c.args in
+    let asked : Asked a.n a.t.now a.l.now c.in-Asks.w (take c.in-Asks.k c.read.new.xs) =
+        asked_line a.n a.t.now a.l.now c.in-Asks.w (take c.in-Asks.k c.read.new.xs)
+        (ap (λ (x : Line). viewed x c.read.new.xs) (sym c.in-Asks.is) ∙ c.read.ensures.0) in
+    let told : Answer = word_answer a.t.now c.in-Asks.w (take c.in-Asks.k c.read.new.xs) in
+    let whole : unpacked c.call-a.result ≡ told = says_whole c.call-a.result told c.call-a.ensures.0 in
+    let most : length (answered a.n c.in-Asks.w (unpacked c.call-a.result)) ≤ 60 =
+        rw whole (answered_most a.n c.in-Asks.w told c.requires.0 (short_word a.t.now c.in-Asks.w (take c.in-Asks.k c.read.new.xs))) in
+    (says_few c.call-a.ensures.0, omega (arith, asked.long, c.requires, most))
 
 pub unread-requires : goal.unread-requires
 unread-requires c = omega (arith, c.requires, unread_most c.args.n c.requires.0)
 
 pub returns-in-Asks : goal.returns-in-Asks
 returns-in-Asks c =
-    let count = (c.w-1.given.0.1.0) in
-    let asked : let a = c.args in Asked a.n a.t.now a.l.now c.in-Asks.w (take count c.read.new.xs) = (
-        let a = c.args in
-    asked_line a.n a.t.now a.l.now c.in-Asks.w (take count c.read.last.1.0)
-    (ap (λ (x : Line). viewed x c.read.last.1.0) (sym c.in-Asks.is) ∙ c.read.ensures.0)) in
-    let q = asked (word d) in (
-      wrote_same (ap (answered (entry d).args.n (word d).w.given.0.0) (whole d) ∙ q.text) c.answered.ensures,
-      c.call-a.ensures.1 ∙ q.words,
-      omega (arith, c.answered.ensures.place, q.long, most d),
+    let a = c.args in
+    let asked : Asked a.n a.t.now a.l.now c.in-Asks.w (take c.in-Asks.k c.read.new.xs) =
+        asked_line a.n a.t.now a.l.now c.in-Asks.w (take c.in-Asks.k c.read.new.xs)
+        (ap (λ (x : Line). viewed x c.read.new.xs) (sym c.in-Asks.is) ∙ c.read.ensures.0) in
+    let told : Answer = word_answer a.t.now c.in-Asks.w (take c.in-Asks.k c.read.new.xs) in
+    let whole : unpacked c.call-a.result ≡ told = says_whole c.call-a.result told c.call-a.ensures.0 in
+    let most : length (answered a.n c.in-Asks.w (unpacked c.call-a.result)) ≤ 60 =
+        rw whole (answered_most a.n c.in-Asks.w told c.requires.0 (short_word a.t.now c.in-Asks.w (take c.in-Asks.k c.read.new.xs))) in
+    (
+      wrote_same (ap (answered a.n c.in-Asks.w) whole ∙ asked.text) c.answered.ensures,
+      c.call-a.ensures.1 ∙ asked.words,
+      omega (arith, c.answered.ensures.place, asked.long, most),
     )
 
 pub returns-in-Bad : goal.returns-in-Bad
