@@ -37,8 +37,8 @@ loop-p-preserved c =
     let k = c.loop-p in
     let a = c.args in
     goes_on a.s.now a.t.now a.out.now k.t k.out k.p.now k.n k.at c.until-k.result d.result k.invariant
-    c.loop-p-test.true c.until-k.ensures.1 d.ensures c.run_line-at.result c.run_line-at.new.t.1.0 c.run_line-at.new.t.1.1.0
-    c.run_line-at.ensures.0 c.run_line-at.ensures.1 c.run_line-at.ensures.2 c.run_line-at.auto.1.1.1.0 c.run_line-at.auto.1.1.0
+    c.loop-p-test.true c.until-k.ensures.1 d.ensures c.run_line-at.result c.run_line-at.new.t c.run_line-at.new.out
+    c.run_line-at.ensures.0 c.run_line-at.ensures.1 c.run_line-at.ensures.2 c.run_line-at.auto.out c.run_line-at.auto.t
 
 pub shape_of-t : goal.shape_of-t
 shape_of-t c = c.loop-p.invariant.table

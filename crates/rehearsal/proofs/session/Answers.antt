@@ -12,5 +12,5 @@ pub returns : goal.returns
 returns c =
     let n = c.counted-n in
     let a = c.args in
-    whole a.input.now a.t.now a.out.now n.result n.ensures.2 n.ensures.3 c.run.new.t c.run.new.t.1.0 c.run.result
-    c.if-out-n.false c.run.ensures.0 c.run.ensures.1 c.run.ensures.2 c.run.auto.1.1.0
+    whole a.input.now a.t.now a.out.now n.result n.ensures.2 n.ensures.3 c.run.new.t c.run.new.out c.run.result
+    c.if-out-n.false c.run.ensures.0 c.run.ensures.1 c.run.ensures.2 c.run.auto.out
