@@ -6,7 +6,7 @@ use Rattle.std.proofs.Math.Bool.{not}
 use mathlib.Core.List.{List, [], ◌∷◌}
 use Rattle.std.proofs.Math.Dec.{ltb, leb}
 use Rattle.std.proofs.Math.ListN.{length}
-use Rattle.model.specs.Lists.{if◌then◌else◌, every, any, bit, contains, rising, overlay}
+use Rattle.model.specs.Lists.{every, any, bit, contains, rising, overlay}
 use Rattle.model.specs.Identifier.{between}
 use Rattle.model.specs.Table.{Member, Table, space_of, header_size, record_size, table_of, members_in, ids, well_formed}
 use Rattle.model.specs.Ring.{live, named, successor, is_pending, has_live, principals, sound, verdict, passed_by_all}

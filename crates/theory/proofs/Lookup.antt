@@ -1,9 +1,9 @@
 -- The theorems of which Lookup in specs/ has the definitions, with their proofs.
-use Rattle.std.specs.Prelude.{◌≡◌, refl, ◌⊎◌, Bool, true, false, ◌||◌, List, [], ◌∷◌, ℕ, zero, suc, ◌+◌, ◌<◌, eqb, length}
+use Rattle.std.specs.Prelude.{◌≡◌, refl, ◌⊎◌, Bool, true, false, ◌||◌, List, [], ◌∷◌, ℕ, zero, suc, ◌+◌, ◌<◌, eqb, length, if◌then◌else◌}
 use Rattle.std.proofs.Common.{sym, ap, ◌∙◌, inl, inr, arith, eqb-true}
 use Rattle.std.proofs.Math.Option.{Option, some, none}
 use Rattle.std.proofs.lemmas.Bool.{eqb-false}
-use Rattle.model.specs.Lists.{if◌then◌else◌, option, count}
+use Rattle.model.specs.Lists.{option, count}
 use Rattle.model.specs.Identifier.{between}
 use Rattle.model.specs.Table.{Member, members_in, ids}
 use Rattle.model.specs.Ring.{live, named, best_successor, passed_by, moved}

@@ -1,8 +1,8 @@
 -- The theorems of which Passed in specs/ has the definitions, with their proofs.
-use Rattle.std.specs.Prelude.{ℕ, zero, suc, ◌+◌, ◌<◌, ◌≡◌, refl, Bool, true, false, ◌||◌, List, [], ◌∷◌, map, eqb, length, get_or}
+use Rattle.std.specs.Prelude.{ℕ, zero, suc, ◌+◌, ◌<◌, ◌≡◌, refl, Bool, true, false, ◌||◌, List, [], ◌∷◌, map, eqb, length, get_or, if◌then◌else◌}
 use Rattle.std.proofs.Common.{sym, ap, ◌∙◌, inl, inr, arith}
 use Rattle.std.proofs.Math.Option.{Option, some, none}
-use Rattle.model.specs.Lists.{if◌then◌else◌, option, sum}
+use Rattle.model.specs.Lists.{option, sum}
 use Rattle.model.specs.Identifier.{between}
 use Rattle.model.specs.Table.{Member, Table, table_of, members_in, ids, well_formed}
 use Rattle.model.specs.Ring.{live, named, successor, Search, past, searched, first_live, best_successor, passed_by, passed_by_all, principal, sound, ideal, verdict}

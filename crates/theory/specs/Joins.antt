@@ -1,7 +1,6 @@
 -- By whom to join. Where find of j replies and j is no member, the member that it stands at is one to join by: behind a live first entry nothing
 -- but 5 declines the join, and on an ideal table each first entry is live.
-use Rattle.std.specs.Prelude.{ℕ, ◌≡◌, Bool, false, not, ◌&&◌, List, [], ◌∷◌}
-use Rattle.model.specs.Lists.{if◌then◌else◌}
+use Rattle.std.specs.Prelude.{ℕ, ◌≡◌, Bool, false, not, ◌&&◌, List, [], ◌∷◌, if◌then◌else◌}
 use Rattle.model.specs.Identifier.{between}
 use Rattle.model.specs.Table.{members_in}
 use Rattle.model.specs.Ring.{live, named, successor}

@@ -1,8 +1,8 @@
 -- Document 02, Req 06, on every table: the entries that a search passes over are dead, and the next one is the best successor; find's other values are
 -- what they were before the request; on an ideal table nothing is passed over.
-use Rattle.std.specs.Prelude.{ℕ, zero, suc, ◌<◌, ◌≡◌, true, false, ◌||◌, List, [], ◌∷◌, eqb, length, get_or, take}
+use Rattle.std.specs.Prelude.{ℕ, zero, suc, ◌<◌, ◌≡◌, true, false, ◌||◌, List, [], ◌∷◌, eqb, length, get_or, take, if◌then◌else◌}
 use Rattle.std.proofs.Math.Option.{Option, some, none}
-use Rattle.model.specs.Lists.{if◌then◌else◌, option}
+use Rattle.model.specs.Lists.{option}
 use Rattle.model.specs.Identifier.{between}
 use Rattle.model.specs.Table.{Member, members_in}
 use Rattle.model.specs.Ring.{live, named, Search}
