@@ -12,7 +12,7 @@ use Rattle.model.specs.Run.{numbers_of, call_words, run}
 use Rattle.laws.specs.Lists.{true_and}
 use Rattle.laws.specs.Tables.{space_words}
 use Rattle.theory.specs.Claim.{Holds}
-use Rattle.theory.specs.Demand3.{demand_3}
+use Rattle.theory.proofs.Demand3.{demand_3}
 use Rattle.calls.specs.declared.Call.{Call}
 use Rattle.calls.specs.declared.Call.TheVariants.{Join}
 use Rattle.calls.specs.Calls.{call_of, MayStart}

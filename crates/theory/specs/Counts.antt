@@ -129,3 +129,11 @@ pub record Tells (n : ℕ) (ss : List Service) (ws : List ℕ) : Type 0 where
 -- so they tell, where n stays a member and the first is below the largest word
 abbrev pub TwoReadingsTell : Type 0
 TwoReadingsTell = (n : ℕ) (ss : List Service) (ws : List ℕ) → stays_member service_words n ss ws ≡ true → steps_of ws n < 4294967295 → Tells n ss ws
+
+-- a turn is at least 1 step of its member, and at most r + 2
+abbrev pub TurnSteps : ℕ → Type 0
+TurnSteps n = (T : Table) → (1 ≤ steps_in_turn n T) × (steps_in_turn n T ≤ T.r + 2)
+
+-- what two readings s and t tell, where n took k steps between them
+abbrev pub ReadingsTell : Type 0
+ReadingsTell = (n : ℕ) (ss : List Service) (ws : List ℕ) (s k t : ℕ) → s < 4294967295 → t ≡ counted (s + k) → (t ≡ s → k ≡ 0) × (k ≡ 0 → t ≡ s) × (t < 4294967295 → t ≡ s + k)

@@ -1,10 +1,8 @@
--- Theorems about model alone. Claim has demand 3's statement, Demand3 its proof; Bound has settle's bound, BoundProof its proof; Windows, Counts and Alike state,
--- WindowsProof, CountsProof, AlikeProof and Unlike prove.
+-- Theorems about model alone. Claim has demand 3's statement, Bound settle's bound; Windows, Counts and Alike state, and the other files too, where a file in proofs/
+-- has their name: there the proofs stand. What proves alike's no, Unlike, and the lemmas below it all stand here.
 pub mod Claim
 pub mod Entries
-pub mod Walks
 pub mod Orbit
-pub mod Static
 pub mod Keep
 pub mod Forms
 pub mod Steps
@@ -24,19 +22,11 @@ pub mod Images
 pub mod Turns
 pub mod Bound
 pub mod Calm
-pub mod Rounds
-pub mod Far
-pub mod Right
-pub mod BoundProof
 pub mod Windows
-pub mod WindowsProof
 pub mod Counts
-pub mod CountsProof
 pub mod Alike
-pub mod AlikeProof
 pub mod Unlike
 pub mod Passed
 pub mod Joins
 pub mod Served
 pub mod Tight
-pub mod Demand3

@@ -133,6 +133,3 @@ module _ {C : Type 0} (next : List ℕ → C → List ℕ) (numbers : C → List
 pub run_good : (cs : List Call) (ws : List ℕ) → Starts cs ws → Good (run cs ws)
 unfolding run granted
 run_good cs ws s = all_good call_words numbers_of granted_call call_good (λ c us g. call_space c us) cs ws s.identifiers s.grants (record { is_well_formed = s.is_well_formed; is_sound = s.is_sound })
-
-pub kept : (cs : List Call) (ws : List ℕ) → Starts cs ws → (well_formed (run cs ws) ≡ true) × (sound (table_of (run cs ws)) ≡ true)
-kept cs ws s = let g = run_good cs ws s in (g.is_well_formed, g.is_sound)

@@ -1,13 +1,8 @@
 -- Settle's bound is tight: for r = 1 and for r = 2 a sound table of s members, computed, that is not ideal after s - 2 rounds.
-use Rattle.std.specs.Prelude.{◌≡◌, refl, true, List, [], ◌∷◌, ℕ, ◌-◌, length}
-use Rattle.std.proofs.Common.{ap, ◌∙◌}
-use Rattle.model.specs.Identifier.{between, after, space}
-use Rattle.model.specs.Table.{idle, Table, table_with, table_of, members_in, words_of, well_formed, formed, formed_member}
-use Rattle.model.specs.Ring.{sound, candidate_inside, ideal, ideal_member, verdict}
-use Rattle.model.specs.Steps.{stabilize_from_successor, stabilize_from_predecessor, stabilize, stabilize_reply, next_step, renews}
-use Rattle.model.specs.Settle.{delivered, last_step, finished, after_turn, after_round, after_rounds}
+use Rattle.std.specs.Prelude.{◌≡◌, true, List, [], ◌∷◌, ℕ, ◌-◌, length}
+use Rattle.model.specs.Table.{idle, Table, table_with, table_of, members_in, well_formed}
+use Rattle.model.specs.Ring.{sound, verdict}
 use Rattle.theory.specs.Bound.{rounds}
-use Rattle.theory.specs.BoundProof.{after_rounds_law}
 
 -- a slice with a sound table of lists of r entries that s - 2 rounds leave with verdict 1
 pub record Late (r : ℕ) : Type 0 where
@@ -24,45 +19,3 @@ four = table_with 1 (idle 10 10 (30 ∷ []) ∷ idle 20 10 (40 ∷ []) ∷ idle 
 -- five members, of which 10, 20 and 30 are principals
 abbrev pub five : Table
 five = table_with 2 (idle 10 10 (20 ∷ 30 ∷ []) ∷ idle 20 40 (30 ∷ 40 ∷ []) ∷ idle 30 20 (10 ∷ 20 ∷ []) ∷ idle 40 40 (50 ∷ 10 ∷ []) ∷ idle 50 40 (10 ∷ 20 ∷ []) ∷ [])
-
--- each is sound, and computed at the table
-right : (T : Table) → Type 0
-right T = (well_formed (words_of T) ≡ true) × (sound (table_of (words_of T)) ≡ true)
-
-four_right : right four
-unfolding right sound candidate_inside between well_formed formed formed_member space
-four_right = (refl, refl)
-
-five_right : right five
-unfolding right sound candidate_inside between well_formed formed formed_member space
-five_right = (refl, refl)
-
-two_rounds : verdict (after_rounds 2 four) ≡ 1
-unfolding verdict sound ideal ideal_member candidate_inside between after stabilize stabilize_from_successor stabilize_from_predecessor stabilize_reply next_step renews
-    delivered last_step finished after_turn after_round space
-two_rounds = refl
-
-three_rounds : verdict (after_rounds 3 five) ≡ 1
-unfolding verdict sound ideal ideal_member candidate_inside between after stabilize stabilize_from_successor stabilize_from_predecessor stabilize_reply next_step renews
-    delivered last_step finished after_turn after_round space
-three_rounds = refl
-
-pub late_1 : Late 1
-unfolding right
-late_1 = record {
-  slice = words_of four;
-  has_r = refl;
-  is_well_formed = four_right.0;
-  is_sound = four_right.1;
-  not_yet = ap verdict (after_rounds_law 2 (words_of four) (record { is_well_formed = four_right.0; is_sound = four_right.1 })).1 ∙ two_rounds;
-}
-
-pub late_2 : Late 2
-unfolding right
-late_2 = record {
-  slice = words_of five;
-  has_r = refl;
-  is_well_formed = five_right.0;
-  is_sound = five_right.1;
-  not_yet = ap verdict (after_rounds_law 3 (words_of five) (record { is_well_formed = five_right.0; is_sound = five_right.1 })).1 ∙ three_rounds;
-}

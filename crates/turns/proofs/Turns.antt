@@ -14,7 +14,7 @@ use Rattle.model.specs.Steps.{stabilized}
 use Rattle.model.specs.Settle.{is_done, last_step, finished, until_done, after_turn, after_turns, after_round}
 use Rattle.model.specs.Calls.{written}
 use Rattle.theory.specs.Runs.{Good, good_kept}
-use Rattle.theory.specs.Calm.{pending_done}
+use Rattle.theory.proofs.Calm.{pending_done}
 use Rattle.theory.specs.Turns.{acted_step, acted_finished, acted_until, acted_turn}
 use Rattle.table.specs.Located.{Stands}
 use Rattle.table.proofs.Members.{ids_count}

@@ -11,12 +11,12 @@ use Rattle.model.specs.New.{new_member}
 use Rattle.model.specs.Settle.{after_turn, after_round}
 use Rattle.laws.specs.Order.{equal?, inside_outside}
 use Rattle.laws.specs.Lists.{In, here, there, found, in_ids, named_in, Rising, rising_nodup}
-use Rattle.theory.specs.Static.{next_up_law}
+use Rattle.theory.proofs.Static.{next_up_law}
 use Rattle.theory.specs.New.{down_spares, up_in, down_in}
 use Rattle.theory.specs.Turns.{acted_turn}
 use Rattle.theory.specs.Calm.{succ_of, pred_of, Met, by_own, by_nearer}
-use Rattle.theory.specs.Rounds.{round_gives, Common, among, AllCalm, all_calm_turn}
-use Rattle.theory.specs.Far.{right_turn}
+use Rattle.theory.proofs.Rounds.{round_gives, Common, among, AllCalm, all_calm_turn}
+use Rattle.theory.proofs.Far.{right_turn}
 
 take_ups : (j n : ℕ) (xs : List ℕ) (x : ℕ) → j ≤ n → take j (next_ups n xs x) ≡ next_ups j xs x
 take_ups zero n xs x h = refl

@@ -9,11 +9,12 @@ use Rattle.model.specs.Settle.{after_turn, after_round}
 use Rattle.laws.specs.Order.{equal?, Inside, Outside, below, beyond, rest, mid, high, low, inside_outside, inside_ends, Before, before_trans, before_irrefl, onward}
 use Rattle.laws.specs.Lists.{In, found, here, there, in_cons, in_nil, NoDup, pigeonhole, in_select, select_count, Rising}
 use Rattle.theory.specs.Entries.{Clear, principal_clear, of_named}
-use Rattle.theory.specs.Static.{next_up_law}
+use Rattle.theory.proofs.Static.{next_up_law}
 use Rattle.theory.specs.New.{up_spares, down_spares, up_in, down_in}
 use Rattle.theory.specs.Turns.{acted_turn}
-use Rattle.theory.specs.Calm.{succ_of, pred_of, Met, by_own, by_nearer, other_side, not_own}
-use Rattle.theory.specs.Rounds.{Turned, turned, round_gives, Common, among, AllCalm, all_calm_turn}
+use Rattle.theory.specs.Calm.{succ_of, pred_of, Met, by_own, by_nearer}
+use Rattle.theory.proofs.Calm.{other_side, not_own}
+use Rattle.theory.proofs.Rounds.{Turned, turned, round_gives, Common, among, AllCalm, all_calm_turn}
 
 -- Order: the way up from y to v, with u not passed
 short_step : {n y u v : ℕ} → Inside n y u → Outside y u v → (v ≡ u) ⊎ Inside n v u

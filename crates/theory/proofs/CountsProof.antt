@@ -30,11 +30,11 @@ use Rattle.laws.specs.Rectify.{rectify_same}
 use Rattle.laws.specs.Words.{written_table}
 use Rattle.laws.specs.Tables.{formed_facts, well_formed_facts}
 use Rattle.laws.specs.Removed.{staying_named}
-use Rattle.theory.specs.Counts.{steps_of, counted, steps_until, steps_in_turn, steps_in_turns, steps_in_round, steps_in_rounds, steps_by_call, steps_by, steps_of_all, steps_in, stays_member, CallsCount, CountsOwnSteps, OthersStay, RoundsAreSteps, Adds, RoundAdds, SettleAdds, JoinStarts, NewStarts, TwoReadingsTell}
+use Rattle.theory.specs.Counts.{steps_of, counted, TurnSteps, ReadingsTell, steps_until, steps_in_turn, steps_in_turns, steps_in_round, steps_in_rounds, steps_by_call, steps_by, steps_of_all, steps_in, stays_member, CallsCount, CountsOwnSteps, OthersStay, RoundsAreSteps, Adds, RoundAdds, SettleAdds, JoinStarts, NewStarts, TwoReadingsTell}
 use Rattle.theory.specs.Keep.{replaced_ids, replaced_named, replaced_others, inserted_named, inserted_others}
 use Rattle.theory.specs.Left.{joined_read, stabilized_read, rectified_read, without_read}
 use Rattle.theory.specs.New.{each_new}
-use Rattle.theory.specs.BoundProof.{rounds_slice}
+use Rattle.theory.proofs.BoundProof.{rounds_slice}
 
 -- So many steps more
 
@@ -203,9 +203,9 @@ module _ (n : ℕ) where
       go true = omega arith
       go false = omega arith
 
-  turn_steps : (T : Table) → (1 ≤ steps_in_turn n T) × (steps_in_turn n T ≤ T.r + 2)
+  turn_steps : TurnSteps n
   unfolding steps_in_turn
-  turn_steps T = go (is_pending (named T.members n)) (few_until (suc T.r) (finished n T)) (some_until T.r (finished n T))
+  turn_steps T = let g = go (is_pending (named T.members n)) (few_until (suc T.r) (finished n T)) (some_until T.r (finished n T)) in (g.0, omega (arith, g.1))
     where
       go : (b : Bool) → steps_until (suc T.r) n (finished n T) ≤ suc T.r → 1 ≤ steps_until (suc T.r) n (finished n T)
           → (1 ≤ bit b + steps_until (suc T.r) n (finished n T)) × (bit b + steps_until (suc T.r) n (finished n T) ≤ T.r + 2)
@@ -413,7 +413,7 @@ counts_own_steps n ss ws h small =
     list_counts service_words (λ us s. if eqb (service_answer us s).number 0 then steps_by n (table_of us) s else 0) n (λ s us. service_count n us s) ss ws h small
 
 -- s and k steps, as a count has them
-tells : (n : ℕ) (ss : List Service) (ws : List ℕ) (s k t : ℕ) → s < 4294967295 → t ≡ counted (s + k) → (t ≡ s → k ≡ 0) × (k ≡ 0 → t ≡ s) × (t < 4294967295 → t ≡ s + k)
+tells : ReadingsTell
 tells n ss ws s k t h e = go (less? (s + k) word_limit)
   where
     go : (s + k < word_limit) ⊎ (word_limit ≤ s + k) → (t ≡ s → k ≡ 0) × (k ≡ 0 → t ≡ s) × (t < 4294967295 → t ≡ s + k)

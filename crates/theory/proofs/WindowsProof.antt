@@ -17,7 +17,7 @@ use Rattle.laws.specs.Windows.{right_window_law, start_open, right_windows, Open
 use Rattle.theory.specs.Windows.{FirstOpen, NextIsFirst, NoneWithoutWindows, SettleAtIsSettle, after_minute, SettleAtIsRounds, SettleAtLeaves, SettleAtEnds}
 use Rattle.theory.specs.Bound.{rounds}
 use Rattle.theory.specs.Runs.{Good}
-use Rattle.theory.specs.BoundProof.{round_slice, round_table, settle_rounds, settle_leaves, settle_ends}
+use Rattle.theory.proofs.BoundProof.{round_slice, round_table, settle_rounds, settle_leaves, settle_ends}
 
 -- an accepted reply says that the windows are right, and the minute one of the week
 asked : (vs : List ℕ) (m v : ℕ) (l : List ℕ) → next_open_answer vs m ≡ accepted (v ∷ l) → (bad_windows vs ≡ false) × (m < week)

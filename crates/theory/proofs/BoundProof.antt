@@ -24,10 +24,10 @@ use Rattle.theory.specs.Forms.{Written, written_leaves}
 use Rattle.theory.specs.Runs.{Good, good_kept, leaves_good}
 use Rattle.theory.specs.New.{new_ideal}
 use Rattle.theory.specs.Turns.{round_lasts, rounds_last, same_size}
-use Rattle.theory.specs.Calm.{turn_until}
-use Rattle.theory.specs.Rounds.{Common, calm_round}
-use Rattle.theory.specs.Far.{Fars, fars_round, none_wrong}
-use Rattle.theory.specs.Right.{Right, right_round, rest_round, rest_members}
+use Rattle.theory.proofs.Calm.{turn_until}
+use Rattle.theory.proofs.Rounds.{Common, calm_round}
+use Rattle.theory.proofs.Far.{Fars, fars_round, none_wrong}
+use Rattle.theory.proofs.Right.{Right, right_round, rest_round, rest_members}
 
 rounds_add : (a b n : ℕ) (T : Table) → a + b ≡ n → after_rounds n T ≡ after_rounds b (after_rounds a T)
 rounds_add zero b n T e = let q : n ≡ b = omega arith in ap (λ (k : ℕ). after_rounds k T) q

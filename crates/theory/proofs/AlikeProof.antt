@@ -6,7 +6,7 @@ use Rattle.std.proofs.Math.Bool.{not}
 use mathlib.Core.List.{List, [], ◌∷◌}
 use Rattle.std.proofs.Math.Dec.{ltb, leb}
 use Rattle.std.proofs.Math.ListN.{length}
-use Rattle.model.specs.Lists.{every, any, bit, contains, rising, same, overlay}
+use Rattle.model.specs.Lists.{every, any, bit, contains, rising, overlay}
 use Rattle.model.specs.Identifier.{between}
 use Rattle.model.specs.Table.{Member, Table, space_of, header_size, record_size, table_of, members_in, ids, well_formed}
 use Rattle.model.specs.Ring.{live, named, successor, is_pending, has_live, principals, sound, verdict, passed_by_all}
@@ -34,7 +34,7 @@ use Rattle.theory.specs.Alike.{SaysYes, SameViews, YesMeans, YesIsEqual}
 use Rattle.theory.specs.Forms.{Written, join_leaves, stabilize_leaves, rectify_leaves, without_leaves}
 use Rattle.theory.specs.Runs.{Good, good_kept}
 use Rattle.theory.specs.Turns.{rounds_last}
-use Rattle.theory.specs.BoundProof.{rounds_leaves}
+use Rattle.theory.proofs.BoundProof.{rounds_leaves}
 
 -- Tables that differ in their counts alone
 

@@ -15,7 +15,8 @@ use Rattle.laws.specs.Stabilize.{candidate_taken, step_pending}
 use Rattle.theory.specs.Keep.{Kept}
 use Rattle.theory.specs.Bound.{UntilDone, last, more}
 use Rattle.theory.specs.Turns.{acted_step, acted_turn, stepped_named, delivered_list, stays_in}
-use Rattle.theory.specs.Calm.{succ_of, pred_of, Met, by_own, by_nearer, Calm, pending_done, looks_on, settles_done, left_looks, left_settles, turn_until, calm_turn, calm_stays}
+use Rattle.theory.specs.Calm.{succ_of, pred_of, Met, by_own, by_nearer, Calm}
+use Rattle.theory.proofs.Calm.{pending_done, looks_on, settles_done, left_looks, left_settles, turn_until, calm_turn, calm_stays}
 
 -- Turns on a calm table
 

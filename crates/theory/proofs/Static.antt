@@ -11,7 +11,7 @@ use Rattle.laws.specs.Iterate.{iterate}
 use Rattle.laws.specs.Tables.{Formed, Sound, well_formed_facts, sound_facts}
 use Rattle.theory.specs.Claim.{ComesOn, InRingOrder, ring, appendages, Holds}
 use Rattle.theory.specs.Entries.{Clear, principal_clear, of_named, in_ring_order, first_live_in, first_live_some, first_live_outside}
-use Rattle.theory.specs.Walks.{on_ring_back, back_on_ring}
+use Rattle.theory.proofs.Walks.{on_ring_back, back_on_ring}
 use Rattle.theory.specs.Orbit.{Returns, returns_next, Closed, Arrival, arrived, move, arrives, returns, ring_next}
 
 -- The next up of rising numbers: the one to which the way from x passes none of them
