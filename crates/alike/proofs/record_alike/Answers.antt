@@ -1,11 +1,9 @@
 -- `record_alike` meets its contract. Assumes nothing.
 use Prim.Native.Nat.{ℕ, ◌-◌}
 use mathlib.Core.Path.{◌≡◌, sym, ◌∙◌}
-use mathlib.Core.Logic.{⊎_elim}
 use mathlib.Core.Bool.{true}
 use mathlib.Core.List.{List}
 use native.Mathlib.Omega.{arith}
-use borrow.Author.Tests.{not-true, not-false}
 use lib.ListN.{length, take, drop}
 use Rattle.model.specs.Lists.{same}
 use Rattle.laws.specs.Parts.{part_from}
@@ -33,6 +31,6 @@ returns c =
     let first : same (take 4 us) (take 4 vs) ≡ true = sym c.four_same.ensures ∙ c.if-not-four_same.false in
     c.four_same-2.ensures ∙ from r us vs
     ∙ last_decide r us vs c.requires.1 c.requires.2 (elim c.if-r-gt4.branch [
-      then-r-gt4+else-not-four_same-2 w ↦ more_same r us vs first c.requires.0 (sym (w.four_same-then-r-gt4.ensures ∙ from 4 us vs) ∙ w.if-not-four_same-2.false)
+      | then-r-gt4+else-not-four_same-2 w ↦ more_same r us vs first c.requires.0 (sym (w.four_same-then-r-gt4.ensures ∙ from 4 us vs) ∙ w.if-not-four_same-2.false)
       | else-r-gt4 w ↦ few_same r us vs first (omega arith)
     ])

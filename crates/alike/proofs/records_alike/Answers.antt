@@ -15,7 +15,7 @@ use Rattle.alike.proofs.records_alike.Goals as goal
 pub slice_bounds-record_alike-end : goal.slice_bounds-record_alike-end
 slice_bounds-record_alike-end c =
     let one : (c.record_size-w.result ≤ length c.loop-left.p.now) × (c.record_size-w.result ≤ length c.loop-left.q.now) = (
-        let k = c.loop-left in
+    let k = c.loop-left in
     let r = c.args.r in
     rw c.record_size-w.ensures (one_fits r k.left k.p.now c.loop-left-test.true k.invariant.0, one_fits r k.left k.q.now c.loop-left-test.true k.invariant.1)) in
     sym (length-take-le _ _ one.0)
@@ -23,7 +23,7 @@ slice_bounds-record_alike-end c =
 pub slice_bounds-record_alike-end-in-loop-left : goal.slice_bounds-record_alike-end-in-loop-left
 slice_bounds-record_alike-end-in-loop-left c =
     let one : (c.record_size-w.result ≤ length c.loop-left.p.now) × (c.record_size-w.result ≤ length c.loop-left.q.now) = (
-        let k = c.loop-left in
+    let k = c.loop-left in
     let r = c.args.r in
     rw c.record_size-w.ensures (one_fits r k.left k.p.now c.loop-left-test.true k.invariant.0, one_fits r k.left k.q.now c.loop-left-test.true k.invariant.1)) in
     sym (length-take-le _ _ one.1)
@@ -31,7 +31,7 @@ slice_bounds-record_alike-end-in-loop-left c =
 pub record_alike-requires : goal.record_alike-requires
 record_alike-requires c =
     let one : (c.record_size-w.result ≤ length c.loop-left.p.now) × (c.record_size-w.result ≤ length c.loop-left.q.now) = (
-        let k = c.loop-left in
+    let k = c.loop-left in
     let r = c.args.r in
     rw c.record_size-w.ensures (one_fits r k.left k.p.now c.loop-left-test.true k.invariant.0, one_fits r k.left k.q.now c.loop-left-test.true k.invariant.1)) in
     let w = c.record_size-w.ensures in
@@ -40,7 +40,7 @@ record_alike-requires c =
 pub slice_bounds-p-count : goal.slice_bounds-p-count
 slice_bounds-p-count c =
     let one : (c.record_size-w.result ≤ length c.loop-left.p.now) × (c.record_size-w.result ≤ length c.loop-left.q.now) = (
-        let k = c.loop-left in
+    let k = c.loop-left in
     let r = c.args.r in
     rw c.record_size-w.ensures (one_fits r k.left k.p.now c.loop-left-test.true k.invariant.0, one_fits r k.left k.q.now c.loop-left-test.true k.invariant.1)) in
     one.0
@@ -48,7 +48,7 @@ slice_bounds-p-count c =
 pub slice_bounds-p-start : goal.slice_bounds-p-start
 slice_bounds-p-start c =
     let one : (c.record_size-w.result ≤ length c.loop-left.p.now) × (c.record_size-w.result ≤ length c.loop-left.q.now) = (
-        let k = c.loop-left in
+    let k = c.loop-left in
     let r = c.args.r in
     rw c.record_size-w.ensures (one_fits r k.left k.p.now c.loop-left-test.true k.invariant.0, one_fits r k.left k.q.now c.loop-left-test.true k.invariant.1)) in
     one.0
@@ -56,7 +56,7 @@ slice_bounds-p-start c =
 pub slice_bounds-q-count : goal.slice_bounds-q-count
 slice_bounds-q-count c =
     let one : (c.record_size-w.result ≤ length c.loop-left.p.now) × (c.record_size-w.result ≤ length c.loop-left.q.now) = (
-        let k = c.loop-left in
+    let k = c.loop-left in
     let r = c.args.r in
     rw c.record_size-w.ensures (one_fits r k.left k.p.now c.loop-left-test.true k.invariant.0, one_fits r k.left k.q.now c.loop-left-test.true k.invariant.1)) in
     one.1
@@ -64,7 +64,7 @@ slice_bounds-q-count c =
 pub slice_bounds-q-start : goal.slice_bounds-q-start
 slice_bounds-q-start c =
     let one : (c.record_size-w.result ≤ length c.loop-left.p.now) × (c.record_size-w.result ≤ length c.loop-left.q.now) = (
-        let k = c.loop-left in
+    let k = c.loop-left in
     let r = c.args.r in
     rw c.record_size-w.ensures (one_fits r k.left k.p.now c.loop-left-test.true k.invariant.0, one_fits r k.left k.q.now c.loop-left-test.true k.invariant.1)) in
     one.1
@@ -72,11 +72,11 @@ slice_bounds-q-start c =
 pub loop-left-preserved : goal.loop-left-preserved
 loop-left-preserved c =
     let one : (c.record_size-w.result ≤ length c.loop-left.p.now) × (c.record_size-w.result ≤ length c.loop-left.q.now) = (
-        let k = c.loop-left in
+    let k = c.loop-left in
     let r = c.args.r in
     rw c.record_size-w.ensures (one_fits r k.left k.p.now c.loop-left-test.true k.invariant.0, one_fits r k.left k.q.now c.loop-left-test.true k.invariant.1)) in
     let same_test : let r = c.args.r in c.record_alike.result ≡ alike_member (member_of r c.loop-left.p.now) (member_of r c.loop-left.q.now) = (
-        let r = c.args.r in
+    let r = c.args.r in
     let w = c.record_size-w.ensures in
     c.record_alike.ensures ∙ ap₂ alike_member (member_part r _ c.loop-left.p.now w one.0) (member_part r _ c.loop-left.q.now w one.1)) in
     let k = c.loop-left in
@@ -91,11 +91,11 @@ loop-left-preserved c =
 pub returns-else-record_alike : goal.returns-else-record_alike
 returns-else-record_alike c =
     let one : (c.record_size-w.result ≤ length c.loop-left.p.now) × (c.record_size-w.result ≤ length c.loop-left.q.now) = (
-        let k = c.loop-left in
+    let k = c.loop-left in
     let r = c.args.r in
     rw c.record_size-w.ensures (one_fits r k.left k.p.now c.loop-left-test.true k.invariant.0, one_fits r k.left k.q.now c.loop-left-test.true k.invariant.1)) in
     let same_test : let r = c.args.r in c.record_alike.result ≡ alike_member (member_of r c.loop-left.p.now) (member_of r c.loop-left.q.now) = (
-        let r = c.args.r in
+    let r = c.args.r in
     let w = c.record_size-w.ensures in
     c.record_alike.ensures ∙ ap₂ alike_member (member_part r _ c.loop-left.p.now w one.0) (member_part r _ c.loop-left.q.now w one.1)) in
     let k = c.loop-left in

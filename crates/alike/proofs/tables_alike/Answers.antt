@@ -25,12 +25,11 @@ returns-then-n-m c =
     rw (counts_differ (members_in us) (members_in vs) (λ e. c.if-n-m.true (sym (members_length (get_or us 0 0) (get_or us 1 0) (drop header_size us)) ∙ e ∙ members_length (get_or vs 0 0) (get_or vs 1 0) (drop header_size vs))), and-false)
 
 pub records_alike-requires : goal.records_alike-requires
-records_alike-requires c =
-    (
-      c.requires.formed_words.r_high,
-      rw (c.records_of.ensures, length-drop) (omega (arith, c.requires.formed_words.fits)),
-      rw (c.records_of-2.ensures, length-drop, c.if-r-s.false, c.if-n-m.false) (omega (arith, c.requires.formed_words_2.fits)),
-    )
+records_alike-requires c = (
+  c.requires.formed_words.r_high,
+  rw (c.records_of.ensures, length-drop) (omega (arith, c.requires.formed_words.fits)),
+  rw (c.records_of-2.ensures, length-drop, c.if-r-s.false, c.if-n-m.false) (omega (arith, c.requires.formed_words_2.fits)),
+)
 
 pub returns : goal.returns
 returns c =

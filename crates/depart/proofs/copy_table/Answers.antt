@@ -1,5 +1,4 @@
 -- `copy_table` meets its contract. The loop's invariant: the first i words are copied. Assumes nothing.
-use Prim.Native.Nat.{◌-◌}
 use mathlib.Core.Path.{◌≡◌, refl}
 use native.Mathlib.Omega.{arith}
 use lib.ListN.{length-set}

@@ -13,14 +13,14 @@ use Rattle.depart.proofs.fail.Goals as goal
 pub gone-requires : goal.gone-requires
 gone-requires c =
     let granted : let a = c.args in Called a.t.now a.n c.in-At.k = (
-        let a = c.args in called a.t.now a.n c.in-At.k (sym c.in-At.is ∙ c.standing_of.ensures)) in
+    let a = c.args in called a.t.now a.n c.in-At.k (sym c.in-At.is ∙ c.standing_of.ensures)) in
     let g = granted in record { formed_words = g.table; k_bound = g.stands.within }
 
 pub returns-in-At : goal.returns-in-At
 unfolding fail_answer fail_words
 returns-in-At c =
     let granted : let a = c.args in Called a.t.now a.n c.in-At.k = (
-        let a = c.args in called a.t.now a.n c.in-At.k (sym c.in-At.is ∙ c.standing_of.ensures)) in
+    let a = c.args in called a.t.now a.n c.in-At.k (sym c.in-At.is ∙ c.standing_of.ensures)) in
     let g = granted in
     let T = table_of c.args.t.now in (
       rw g.granted (c.gone.ensures.0 ∙ ap (λ (x : ℕ). accepted (length (without x T).members ∷ [])) g.stands.has_id),

@@ -25,7 +25,7 @@ causes-requires c =
     let well : FormedWords c.copy_table.new.a = copied_formed c.args.t.now c.copy_table.new.a c.requires.formed_words c.copy_table.ensures.0 c.copy_table.ensures.1 in
     let within : c.args.k < get_or c.copy_table.new.a 1 0 = subst (λ (n : ℕ). c.args.k < n) (sym (copied_count c.args.t.now c.copy_table.new.a c.requires.formed_words c.copy_table.ensures.0)) c.requires.k_bound in
     let gone : FormedWords c.remove_at.new.t × (table_of c.remove_at.new.t ≡ without goer (table_of c.args.t.now)) = (
-        let a = c.copy_table.new.a in
+    let a = c.copy_table.new.a in
     let x = get_or (ids (members_in a)) c.args.k 0 in
     let k = removed_facts a x well (stands_live well (own_place a c.args.k within)) in
     rw c.remove_at.ensures (k.0, k.1 ∙ ap (λ (T : Table). without (get_or (ids T.members) c.args.k 0) T) same)) in
@@ -39,7 +39,7 @@ returns c =
     let well : FormedWords c.copy_table.new.a = copied_formed c.args.t.now c.copy_table.new.a c.requires.formed_words c.copy_table.ensures.0 c.copy_table.ensures.1 in
     let within : c.args.k < get_or c.copy_table.new.a 1 0 = subst (λ (n : ℕ). c.args.k < n) (sym (copied_count c.args.t.now c.copy_table.new.a c.requires.formed_words c.copy_table.ensures.0)) c.requires.k_bound in
     let gone : FormedWords c.remove_at.new.t × (table_of c.remove_at.new.t ≡ without goer (table_of c.args.t.now)) = (
-        let a = c.copy_table.new.a in
+    let a = c.copy_table.new.a in
     let x = get_or (ids (members_in a)) c.args.k 0 in
     let k = removed_facts a x well (stands_live well (own_place a c.args.k within)) in
     rw c.remove_at.ensures (k.0, k.1 ∙ ap (λ (T : Table). without (get_or (ids T.members) c.args.k 0) T) same)) in

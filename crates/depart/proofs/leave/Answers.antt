@@ -10,13 +10,13 @@ use Rattle.depart.proofs.leave.Goals as goal
 pub leave_at-requires : goal.leave_at-requires
 leave_at-requires c =
     let granted : let a = c.args in Called a.t.now a.n c.in-At.k = (
-        let a = c.args in called a.t.now a.n c.in-At.k (sym c.in-At.is ∙ c.standing_of.ensures)) in
+    let a = c.args in called a.t.now a.n c.in-At.k (sym c.in-At.is ∙ c.standing_of.ensures)) in
     let g = granted in record { formed_words = g.table; k_bound = g.stands.within }
 
 pub returns-in-At : goal.returns-in-At
 returns-in-At c =
     let granted : let a = c.args in Called a.t.now a.n c.in-At.k = (
-        let a = c.args in called a.t.now a.n c.in-At.k (sym c.in-At.is ∙ c.standing_of.ensures)) in
+    let a = c.args in called a.t.now a.n c.in-At.k (sym c.in-At.is ∙ c.standing_of.ensures)) in
     let ws = c.args.t.now in
     let e = granted.stands.has_id in
     (c.leave_at.ensures.0 ∙ ap (leave_answer ws) e, c.leave_at.ensures.1 ∙ ap (leave_words ws) e)

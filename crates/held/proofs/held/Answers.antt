@@ -14,7 +14,7 @@ use Rattle.held.proofs.held.Goals as goal
 pub runs_at-requires : goal.runs_at-requires
 runs_at-requires c =
     let granted : let a = c.args in Called a.t.now a.n c.in-At.at = (
-        let a = c.args in called a.t.now a.n c.in-At.at (sym c.in-At.is ∙ c.standing_of.ensures)) in
+    let a = c.args in called a.t.now a.n c.in-At.at (sym c.in-At.is ∙ c.standing_of.ensures)) in
     let g = granted in
     record { formed_words = g.table; at_bound = g.stands.within; ks_value = sym c.is_rising.ensures ∙ c.if-is_rising.true }
 
@@ -22,7 +22,7 @@ pub returns-then-is_rising : goal.returns-then-is_rising
 unfolding held_answer
 returns-then-is_rising c =
     let granted : let a = c.args in Called a.t.now a.n c.in-At.at = (
-        let a = c.args in called a.t.now a.n c.in-At.at (sym c.in-At.is ∙ c.standing_of.ensures)) in
+    let a = c.args in called a.t.now a.n c.in-At.at (sym c.in-At.is ∙ c.standing_of.ensures)) in
     let g = granted in
     let a = c.args in
     rw (held_left a.t.now a.n a.ks.now g.granted, ← c.is_rising.ensures, c.if-is_rising.true)
@@ -32,7 +32,7 @@ pub returns-else-is_rising : goal.returns-else-is_rising
 unfolding held_answer
 returns-else-is_rising c =
     let granted : let a = c.args in Called a.t.now a.n c.in-At.at = (
-        let a = c.args in called a.t.now a.n c.in-At.at (sym c.in-At.is ∙ c.standing_of.ensures)) in
+    let a = c.args in called a.t.now a.n c.in-At.at (sym c.in-At.is ∙ c.standing_of.ensures)) in
     let a = c.args in
     rw (held_left a.t.now a.n a.ks.now granted.granted, ← c.is_rising.ensures, c.if-is_rising.false)
 

@@ -16,14 +16,14 @@ use Rattle.image.proofs.write_fields.Goals as goal
 pub slice_bounds-write_field-end : goal.slice_bounds-write_field-end
 slice_bounds-write_field-end c =
     let one_left : c.record_size-w.result ≤ length c.loop-left.p.now = (
-        let k = c.loop-left in
+    let k = c.loop-left in
     rw c.record_size-w.ensures (one_fits c.args.r k.left k.p.now c.loop-left-test.true k.invariant.0)) in
     sym (length-take-le _ _ one_left)
 
 pub write_field-requires : goal.write_field-requires
 write_field-requires c =
     let one_left : c.record_size-w.result ≤ length c.loop-left.p.now = (
-        let k = c.loop-left in
+    let k = c.loop-left in
     rw c.record_size-w.ensures (one_fits c.args.r k.left k.p.now c.loop-left-test.true k.invariant.0)) in
     let field_fits : c.loop-left.at + field_size c.args.r ≤ length c.loop-left.out = omega (arith, one_of c.loop-left.left (field_size c.args.r) c.loop-left-test.true) in
     (omega arith, length-take-le _ _ one_left ∙ c.record_size-w.ensures, field_fits)
@@ -31,14 +31,14 @@ write_field-requires c =
 pub slice_bounds-p-count : goal.slice_bounds-p-count
 slice_bounds-p-count c =
     let one_left : c.record_size-w.result ≤ length c.loop-left.p.now = (
-        let k = c.loop-left in
+    let k = c.loop-left in
     rw c.record_size-w.ensures (one_fits c.args.r k.left k.p.now c.loop-left-test.true k.invariant.0)) in
     one_left
 
 pub slice_bounds-p-start : goal.slice_bounds-p-start
 slice_bounds-p-start c =
     let one_left : c.record_size-w.result ≤ length c.loop-left.p.now = (
-        let k = c.loop-left in
+    let k = c.loop-left in
     rw c.record_size-w.ensures (one_fits c.args.r k.left k.p.now c.loop-left-test.true k.invariant.0)) in
     one_left
 

@@ -39,7 +39,7 @@ pub loop-left-preserved : goal.loop-left-preserved
 loop-left-preserved c =
     let sized : c.field_size-w.result ≡ field_size c.args.r = c.field_size-w.ensures c.args.r c.record_size.ensures in
     let same_test : let k = c.loop-left in c.field_ok.result ≡ field_right c.args.r k.lo k.p.now = (
-        let k = c.loop-left in
+    let k = c.loop-left in
     rw sized at c.field_ok.ensures ∙ right_part c.args.r k.lo k.p.now) in
     let k = c.loop-left in
     let r = c.args.r in
@@ -54,7 +54,7 @@ pub returns-else-field_ok : goal.returns-else-field_ok
 returns-else-field_ok c =
     let sized : c.field_size-w.result ≡ field_size c.args.r = c.field_size-w.ensures c.args.r c.record_size.ensures in
     let same_test : let k = c.loop-left in c.field_ok.result ≡ field_right c.args.r k.lo k.p.now = (
-        let k = c.loop-left in
+    let k = c.loop-left in
     rw sized at c.field_ok.ensures ∙ right_part c.args.r k.lo k.p.now) in
     let k = c.loop-left in
     wrong_field c.args.r k.left k.lo k.p.now _ c.loop-left-test.true same_test c.if-field_ok.false ∙ k.invariant.1

@@ -1,5 +1,5 @@
 -- `fields_ok` meets its contract. The loop's invariant: the test of the fields that are left is that of all. Assumes nothing.
-use Prim.Native.Nat.{◌+◌, ◌*◌, ◌-◌, ◌≤◌}
+use Prim.Native.Nat.{◌+◌, ◌*◌, ◌≤◌}
 use mathlib.Core.Path.{◌≡◌}
 use lib.ListN.{length}
 use Rattle.model.specs.Image.{field_head}

@@ -29,7 +29,7 @@ pub returns-then-head_is : goal.returns-then-head_is
 returns-then-head_is c =
     let is-size : let bs = c.args.bs.now in c.image_size-size.result ≡ image_size (image_r bs) (image_count bs) = c.image_size-size.ensures.0 ∙ ap₂ image_size c.image_r-r.ensures.0 c.image_count-n.ensures.0 in
     let left : let bs = c.args.bs.now in is_image bs ≡ (head_is bs 1 header_length && fields_right (image_r bs) 0 (image_count bs) (drop first_size bs)) = (
-        let bytes = c.shared_slice_known-1.given in
+    let bytes = c.shared_slice_known-1.given in
     is_image_law c.args.bs.now (λ i. omega (arith, bytes i)) (rw (← c.image_r-r.ensures.0) c.if-r-lt1.false)
     (rw (← c.image_r-r.ensures.0) c.if-r-gt8.false) (rw (← c.image_count-n.ensures.0) c.if-n-gt256.false)
     (sym c.image_steps.ensures ∙ c.if-image_steps-ne0.false) (c.if-bs-size.true ∙ is-size)) in
@@ -40,7 +40,7 @@ pub returns-else-head_is : goal.returns-else-head_is
 returns-else-head_is c =
     let is-size : let bs = c.args.bs.now in c.image_size-size.result ≡ image_size (image_r bs) (image_count bs) = c.image_size-size.ensures.0 ∙ ap₂ image_size c.image_r-r.ensures.0 c.image_count-n.ensures.0 in
     let left : let bs = c.args.bs.now in is_image bs ≡ (head_is bs 1 header_length && fields_right (image_r bs) 0 (image_count bs) (drop first_size bs)) = (
-        let bytes = c.shared_slice_known-1.given in
+    let bytes = c.shared_slice_known-1.given in
     is_image_law c.args.bs.now (λ i. omega (arith, bytes i)) (rw (← c.image_r-r.ensures.0) c.if-r-lt1.false)
     (rw (← c.image_r-r.ensures.0) c.if-r-gt8.false) (rw (← c.image_count-n.ensures.0) c.if-n-gt256.false)
     (sym c.image_steps.ensures ∙ c.if-image_steps-ne0.false) (c.if-bs-size.true ∙ is-size)) in

@@ -19,14 +19,18 @@ pub insert_at-requires : goal.insert_at-requires
 insert_at-requires c =
     let ws = c.args.t.now in
     let n = members_length (get_or ws 0 0) (get_or ws 1 0) (drop header_size ws) in
-    let room = has_room ws c.requires.may.room in record { formed_words = c.requires.table; t_bound = (omega arith, omega (arith, size_words ws, c.requires.table.fits)); id_value = (
-          ap (λ (m : Member). live (members_in ws) m.id) c.joiner-m.ensures ∙ c.requires.may.new,
-          c.requires.place ∙ sym (ap (λ (m : Member). rank (ids (members_in ws)) m.id) c.joiner-m.ensures),
-        ) }
+    let room = has_room ws c.requires.may.room in record {
+      formed_words = c.requires.table;
+      t_bound = (omega arith, omega (arith, size_words ws, c.requires.table.fits));
+      id_value = (
+        ap (λ (m : Member). live (members_in ws) m.id) c.joiner-m.ensures ∙ c.requires.may.new,
+        c.requires.place ∙ sym (ap (λ (m : Member). rank (ids (members_in ws)) m.id) c.joiner-m.ensures),
+      );
+    }
 
 pub returns : goal.returns
 returns c =
     let left : let a = c.args in c.insert_at.new.t ≡ written (joined a.j a.p (table_of a.t.now)) a.t.now = (
-        let ws = c.args.t.now in
+    let ws = c.args.t.now in
     c.insert_at.ensures ∙ ap (λ (m : Member). written (with_members (inserted m (members_in ws)) (table_of ws)) ws) c.joiner-m.ensures) in
     (ap (λ (l : List ℕ). accepted (get_or l 1 0 ∷ [])) left, left)

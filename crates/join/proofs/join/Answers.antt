@@ -9,14 +9,14 @@ use Rattle.join.proofs.join.Goals as goal
 pub admitted-requires : goal.admitted-requires
 admitted-requires c =
     let granted : let a = c.args in (join_refusal a.t.now a.j a.p ≡ 0) × Admits a.t.now c.in-May.at c.in-May.k a.j a.p = (
-        let a = c.args in admits a.t.now a.j a.p _ _ (sym c.in-May.is ∙ c.judged.ensures)) in
+    let a = c.args in admits a.t.now a.j a.p _ _ (sym c.in-May.is ∙ c.judged.ensures)) in
     granted.1
 
 pub returns-in-May : goal.returns-in-May
 unfolding join_answer join_words
 returns-in-May c =
     let granted : let a = c.args in (join_refusal a.t.now a.j a.p ≡ 0) × Admits a.t.now c.in-May.at c.in-May.k a.j a.p = (
-        let a = c.args in admits a.t.now a.j a.p _ _ (sym c.in-May.is ∙ c.judged.ensures)) in
+    let a = c.args in admits a.t.now a.j a.p _ _ (sym c.in-May.is ∙ c.judged.ensures)) in
     let g = granted.0 in
     (rw g c.admitted.ensures.0, rw g c.admitted.ensures.1)
 

@@ -1,6 +1,5 @@
 -- `walk` meets its contract. The loop's invariant: the answer from the member stood at, with the moves made and the entries passed over, is the
 -- whole answer. Assumes nothing.
-use Prim.Native.Nat.{◌-◌}
 use mathlib.Core.Path.{sym, ◌∙◌}
 use native.Mathlib.Omega.{arith}
 use borrow.Author.Rules.{rules}

@@ -11,14 +11,14 @@ returns-then-k-ne0 c = let a = c.args in not_made a.t.now a.r a.xs.now c.refusal
 pub write_table-requires : goal.write_table-requires
 write_table-requires c =
     let may : MayBeMade (length c.args.t.now) c.args.r c.args.xs.now = (
-        let a = c.args in
+    let a = c.args in
     new_accepted (length a.t.now) a.r a.xs.now (sym c.refusal-k.ensures ∙ c.if-k-ne0.false)) in
     let m = may in (m.in_order, m.list_high, m.count_high, m.room)
 
 pub overflow_cast-result : goal.overflow_cast-result
 overflow_cast-result c =
     let may : MayBeMade (length c.args.t.now) c.args.r c.args.xs.now = (
-        let a = c.args in
+    let a = c.args in
     new_accepted (length a.t.now) a.r a.xs.now (sym c.refusal-k.ensures ∙ c.if-k-ne0.false)) in
     let m = may in search rules
 

@@ -1,6 +1,6 @@
 -- `write_table` meets its contract. The invariants: the header and the first i records stand in front, and the words after the table are the old
 -- ones; in the second loop, they stand over the words that the first has left. Assumes nothing.
-use Prim.Native.Nat.{◌+◌, ◌-◌, ◌≤◌}
+use Prim.Native.Nat.{◌+◌, ◌≤◌}
 use mathlib.Core.Path.{◌≡◌, refl, ◌∙◌}
 use native.Mathlib.Omega.{arith}
 use lib.ListN.{length, length-take, length-drop, length-set}
@@ -21,7 +21,7 @@ loop-i-init c = let a = c.args in (search rules, refl, begins a.r a.xs.now a.t.n
 pub slice_bounds-write_ahead-count : goal.slice_bounds-write_ahead-count
 slice_bounds-write_ahead-count c =
     let eight_fits : c.offset-at.result + record_size 8 ≤ length c.loop-i.t = (
-        let k = c.loop-i in
+    let k = c.loop-i in
     let e : length k.t ≡ length c.args.t.now = k.invariant.1 ∙ simp length-set in
     omega (arith, eight_fit c.args.r c.args.xs.now k.i c.loop-i-test.true)) in
     omega (arith, eight_fits)
@@ -29,7 +29,7 @@ slice_bounds-write_ahead-count c =
 pub slice_bounds-write_ahead-start : goal.slice_bounds-write_ahead-start
 slice_bounds-write_ahead-start c =
     let eight_fits : c.offset-at.result + record_size 8 ≤ length c.loop-i.t = (
-        let k = c.loop-i in
+    let k = c.loop-i in
     let e : length k.t ≡ length c.args.t.now = k.invariant.1 ∙ simp length-set in
     omega (arith, eight_fit c.args.r c.args.xs.now k.i c.loop-i-test.true)) in
     omega (arith, eight_fits)
@@ -37,7 +37,7 @@ slice_bounds-write_ahead-start c =
 pub write_ahead-requires : goal.write_ahead-requires
 write_ahead-requires c =
     let eight_fits : c.offset-at.result + record_size 8 ≤ length c.loop-i.t = (
-        let k = c.loop-i in
+    let k = c.loop-i in
     let e : length k.t ≡ length c.args.t.now = k.invariant.1 ∙ simp length-set in
     omega (arith, eight_fit c.args.r c.args.xs.now k.i c.loop-i-test.true)) in
     (search rules, search rules, search rules, simp (length-take, length-drop) (omega (arith, eight_fits)))
@@ -60,7 +60,7 @@ loop-i-2-init c = let k = c.loop-i in (k.invariant.0, refl, k.invariant.2)
 pub slice_bounds-write_round-count : goal.slice_bounds-write_round-count
 slice_bounds-write_round-count c =
     let fits : c.offset-at-in-loop-i-2.result + record_size c.args.r ≤ length c.loop-i-2.t = (
-        let k = c.loop-i-2 in
+    let k = c.loop-i-2 in
     let e : length k.t ≡ length c.args.t.now = k.invariant.1 ∙ c.loop-i.invariant.1 ∙ simp length-set in
     omega (arith, record_fits c.args.r c.args.xs.now k.i c.loop-i-2-test.true)) in
     omega (arith, fits)
@@ -68,7 +68,7 @@ slice_bounds-write_round-count c =
 pub slice_bounds-write_round-start : goal.slice_bounds-write_round-start
 slice_bounds-write_round-start c =
     let fits : c.offset-at-in-loop-i-2.result + record_size c.args.r ≤ length c.loop-i-2.t = (
-        let k = c.loop-i-2 in
+    let k = c.loop-i-2 in
     let e : length k.t ≡ length c.args.t.now = k.invariant.1 ∙ c.loop-i.invariant.1 ∙ simp length-set in
     omega (arith, record_fits c.args.r c.args.xs.now k.i c.loop-i-2-test.true)) in
     omega (arith, fits)
@@ -76,7 +76,7 @@ slice_bounds-write_round-start c =
 pub write_round-requires : goal.write_round-requires
 write_round-requires c =
     let fits : c.offset-at-in-loop-i-2.result + record_size c.args.r ≤ length c.loop-i-2.t = (
-        let k = c.loop-i-2 in
+    let k = c.loop-i-2 in
     let e : length k.t ≡ length c.args.t.now = k.invariant.1 ∙ c.loop-i.invariant.1 ∙ simp length-set in
     omega (arith, record_fits c.args.r c.args.xs.now k.i c.loop-i-2-test.true)) in
     (search rules, search rules, simp (length-take, length-drop) (omega (arith, fits)))

@@ -1,6 +1,6 @@
 -- `pairs_before` meets its contract. The loop's invariant: the pairs counted and those of the rest of the list are those of the whole list.
 -- Assumes nothing.
-use Prim.Native.Nat.{◌+◌, ◌-◌, ◌≤◌}
+use Prim.Native.Nat.{◌+◌, ◌≤◌}
 use mathlib.Core.Path.{sym, ◌∙◌}
 use native.Mathlib.Omega.{arith}
 use lib.ListN.{length, get_or}
@@ -30,8 +30,7 @@ returns-then-between c =
 
 pub loop-i-preserved : goal.loop-i-preserved
 loop-i-preserved c =
-    let l = c.loop-i in
-    (
+    let l = c.loop-i in (
       omega arith,
       count_on c.args.t.now c.requires.formed_words c.args.k c.offset-at.result c.requires.k_bound c.offset-at.ensures.0 c.args.x l.a l.i
           l.invariant.1 c.loop-i-test.true (sym c.between.ensures ∙ c.if-between.false),

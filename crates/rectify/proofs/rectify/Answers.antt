@@ -12,14 +12,14 @@ use Rattle.rectify.proofs.rectify.Goals as goal
 pub rectify_at-requires : goal.rectify_at-requires
 rectify_at-requires c =
     let granted : let a = c.args in Called a.t.now a.n c.in-At.k = (
-        let a = c.args in called a.t.now a.n c.in-At.k (sym c.in-At.is ∙ c.standing_of.ensures)) in
+    let a = c.args in called a.t.now a.n c.in-At.k (sym c.in-At.is ∙ c.standing_of.ensures)) in
     let g = granted in record { formed_words = g.table; k_bound = g.stands.within }
 
 pub returns-in-At : goal.returns-in-At
 unfolding rectify_answer rectify_words
 returns-in-At c =
     let granted : let a = c.args in Called a.t.now a.n c.in-At.k = (
-        let a = c.args in called a.t.now a.n c.in-At.k (sym c.in-At.is ∙ c.standing_of.ensures)) in
+    let a = c.args in called a.t.now a.n c.in-At.k (sym c.in-At.is ∙ c.standing_of.ensures)) in
     let g = granted in
     let a = c.args in
     let ws = a.t.now in

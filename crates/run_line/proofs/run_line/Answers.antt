@@ -35,20 +35,20 @@ pub call-a-requires : goal.call-a-requires
 call-a-requires c =
     let a = c.args in
     let asked : Asked a.n a.t.now a.l.now c.in-Asks.w (take c.in-Asks.k c.read.new.xs) =
-        asked_line a.n a.t.now a.l.now c.in-Asks.w (take c.in-Asks.k c.read.new.xs)
-        (ap (λ (x : Line). viewed x c.read.new.xs) (sym c.in-Asks.is) ∙ c.read.ensures.0) in
+    asked_line a.n a.t.now a.l.now c.in-Asks.w (take c.in-Asks.k c.read.new.xs)
+    (ap (λ (x : Line). viewed x c.read.new.xs) (sym c.in-Asks.is) ∙ c.read.ensures.0) in
     asked.own
 
 pub answered-requires : goal.answered-requires
 answered-requires c =
     let a = c.args in
     let asked : Asked a.n a.t.now a.l.now c.in-Asks.w (take c.in-Asks.k c.read.new.xs) =
-        asked_line a.n a.t.now a.l.now c.in-Asks.w (take c.in-Asks.k c.read.new.xs)
-        (ap (λ (x : Line). viewed x c.read.new.xs) (sym c.in-Asks.is) ∙ c.read.ensures.0) in
+    asked_line a.n a.t.now a.l.now c.in-Asks.w (take c.in-Asks.k c.read.new.xs)
+    (ap (λ (x : Line). viewed x c.read.new.xs) (sym c.in-Asks.is) ∙ c.read.ensures.0) in
     let told : Answer = word_answer a.t.now c.in-Asks.w (take c.in-Asks.k c.read.new.xs) in
     let whole : unpacked c.call-a.result ≡ told = says_whole c.call-a.result told c.call-a.ensures.0 in
     let most : length (answered a.n c.in-Asks.w (unpacked c.call-a.result)) ≤ 60 =
-        rw whole (answered_most a.n c.in-Asks.w told c.requires.0 (short_word a.t.now c.in-Asks.w (take c.in-Asks.k c.read.new.xs))) in
+    rw whole (answered_most a.n c.in-Asks.w told c.requires.0 (short_word a.t.now c.in-Asks.w (take c.in-Asks.k c.read.new.xs))) in
     (says_few c.call-a.ensures.0, omega (arith, asked.long, c.requires, most))
 
 pub unread-requires : goal.unread-requires
@@ -58,13 +58,12 @@ pub returns-in-Asks : goal.returns-in-Asks
 returns-in-Asks c =
     let a = c.args in
     let asked : Asked a.n a.t.now a.l.now c.in-Asks.w (take c.in-Asks.k c.read.new.xs) =
-        asked_line a.n a.t.now a.l.now c.in-Asks.w (take c.in-Asks.k c.read.new.xs)
-        (ap (λ (x : Line). viewed x c.read.new.xs) (sym c.in-Asks.is) ∙ c.read.ensures.0) in
+    asked_line a.n a.t.now a.l.now c.in-Asks.w (take c.in-Asks.k c.read.new.xs)
+    (ap (λ (x : Line). viewed x c.read.new.xs) (sym c.in-Asks.is) ∙ c.read.ensures.0) in
     let told : Answer = word_answer a.t.now c.in-Asks.w (take c.in-Asks.k c.read.new.xs) in
     let whole : unpacked c.call-a.result ≡ told = says_whole c.call-a.result told c.call-a.ensures.0 in
     let most : length (answered a.n c.in-Asks.w (unpacked c.call-a.result)) ≤ 60 =
-        rw whole (answered_most a.n c.in-Asks.w told c.requires.0 (short_word a.t.now c.in-Asks.w (take c.in-Asks.k c.read.new.xs))) in
-    (
+    rw whole (answered_most a.n c.in-Asks.w told c.requires.0 (short_word a.t.now c.in-Asks.w (take c.in-Asks.k c.read.new.xs))) in (
       wrote_same (ap (answered a.n c.in-Asks.w) whole ∙ asked.text) c.answered.ensures,
       c.call-a.ensures.1 ∙ asked.words,
       omega (arith, c.answered.ensures.place, asked.long, most),

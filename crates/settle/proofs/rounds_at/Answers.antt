@@ -42,7 +42,7 @@ pub loop-i-preserved-then-due : goal.loop-i-preserved-then-due
 loop-i-preserved-then-due c =
     let all = (rounds_at (windows_in c.args.ws.now) c.args.ts.now) in
     let looked-at : let a = c.args in c.is_open_at-due.result ≡ is_open (windows_in a.ws.now) (of_week (get_or a.ts.now c.loop-i.i 0)) = (
-        let m = of_week (get_or c.args.ts.now c.loop-i.i 0) in
+    let m = of_week (get_or c.args.ts.now c.loop-i.i 0) in
     c.is_open_at-due.ensures ∙ ap (λ (w : List ℕ). is_open (windows_in w) m) c.padded-w.ensures ∙ padding_opens c.args.ws.now (32 - length c.args.ws.now) m c.requires.ws_value) in
     let u = c.loop-i.invariant.2 in
     let goes = goes_on_at (windows_in c.args.ws.now) c.args.ts.now c.loop-i.i c.loop-i-test.true (table_of c.loop-i.t) (sym c.if-due.true ∙ looked-at)
@@ -53,7 +53,7 @@ pub loop-i-preserved : goal.loop-i-preserved
 loop-i-preserved c =
     let all = (rounds_at (windows_in c.args.ws.now) c.args.ts.now) in
     let looked-at : let a = c.args in c.is_open_at-due.result ≡ is_open (windows_in a.ws.now) (of_week (get_or a.ts.now c.loop-i.i 0)) = (
-        let m = of_week (get_or c.args.ts.now c.loop-i.i 0) in
+    let m = of_week (get_or c.args.ts.now c.loop-i.i 0) in
     c.is_open_at-due.ensures ∙ ap (λ (w : List ℕ). is_open (windows_in w) m) c.padded-w.ensures ∙ padding_opens c.args.ws.now (32 - length c.args.ws.now) m c.requires.ws_value) in
     let past = passes_at (windows_in c.args.ws.now) c.args.ts.now c.loop-i.i c.loop-i-test.true (table_of c.loop-i.t) (sym c.if-due.false ∙ looked-at) in
     (omega (arith, c.loop-i.invariant.0), omega (arith, c.loop-i-test.true), settling_past c.requires.good all c.loop-i.invariant.2 past)

@@ -12,14 +12,14 @@ use Rattle.stabilize.proofs.stabilize.Goals as goal
 pub stabilize_at-requires : goal.stabilize_at-requires
 stabilize_at-requires c =
     let granted : let a = c.args in Called a.t.now a.n c.in-At.k = (
-        let a = c.args in called a.t.now a.n c.in-At.k (sym c.in-At.is ∙ c.standing_of.ensures)) in
+    let a = c.args in called a.t.now a.n c.in-At.k (sym c.in-At.is ∙ c.standing_of.ensures)) in
     let g = granted in record { formed_words = g.table; k_bound = g.stands.within }
 
 pub returns-in-At : goal.returns-in-At
 unfolding stabilize_answer stabilize_words
 returns-in-At c =
     let granted : let a = c.args in Called a.t.now a.n c.in-At.k = (
-        let a = c.args in called a.t.now a.n c.in-At.k (sym c.in-At.is ∙ c.standing_of.ensures)) in
+    let a = c.args in called a.t.now a.n c.in-At.k (sym c.in-At.is ∙ c.standing_of.ensures)) in
     let g = granted in
     let ws = c.args.t.now in
     let e = g.stands.has_id in (
