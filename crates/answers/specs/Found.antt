@@ -16,11 +16,11 @@ case_of k [] = Declined k
 case_of k (q ∷ []) = Stuck q
 case_of k (b ∷ q ∷ vs) = Owner b q (get_or vs 0 0) (get_or vs 1 0)
 
-read_back : (a : Found) → case_of (answer_of a).number (answer_of a).values ≡ a
-read_back (Owner b q moves passed) = refl
-read_back (Stuck q) = refl
-read_back (Declined k) = refl
-
 -- the definition of numbers is one to one
 pub one_to_one : OneToOne answer_of
-one_to_one = read_back_one_to_one case_of read_back
+one_to_one = read_back_one_to_one case_of back
+  where
+    back : (a : Found) → case_of (answer_of a).number (answer_of a).values ≡ a
+    back (Owner b q moves passed) = refl
+    back (Stuck q) = refl
+    back (Declined k) = refl

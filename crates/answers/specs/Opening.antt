@@ -16,11 +16,11 @@ case_of k [] = Declined k
 case_of k (zero ∷ vs) = Never
 case_of k (suc j ∷ vs) = At (get_or vs 0 0)
 
-read_back : (a : Opening) → case_of (answer_of a).number (answer_of a).values ≡ a
-read_back (At m) = refl
-read_back Never = refl
-read_back (Declined k) = refl
-
 -- the definition of numbers is one to one
 pub one_to_one : OneToOne answer_of
-one_to_one = read_back_one_to_one case_of read_back
+one_to_one = read_back_one_to_one case_of back
+  where
+    back : (a : Opening) → case_of (answer_of a).number (answer_of a).values ≡ a
+    back (At m) = refl
+    back Never = refl
+    back (Declined k) = refl

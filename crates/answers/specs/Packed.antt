@@ -21,15 +21,15 @@ pub record Says (n : Answer) (a : AnswerOf) : Type 0 where
   pub packs : n ≡ packed a
   pub few : length a.values ≤ 4
 
--- up to four values are read back
-padded_back : (vs : List ℕ) → length vs ≤ 4 → take (length vs) (padded vs) ≡ vs
-padded_back [] h = refl
-padded_back (a ∷ []) h = refl
-padded_back (a ∷ b ∷ []) h = refl
-padded_back (a ∷ b ∷ c ∷ []) h = refl
-padded_back (a ∷ b ∷ c ∷ d ∷ []) h = refl
-padded_back (a ∷ b ∷ c ∷ d ∷ e ∷ vs) h = absurd (omega arith)
-
 -- what numbers say is read back from them
 pub says_whole : (n : Answer) (a : AnswerOf) → Says n a → unpacked n ≡ a
-says_whole n a s = ap unpacked s.packs ∙ ap (λ (vs : List ℕ). record { number = a.number; values = vs }) (padded_back a.values s.few)
+says_whole n a s = ap unpacked s.packs ∙ ap (λ (vs : List ℕ). record { number = a.number; values = vs }) (back a.values s.few)
+  where
+    -- up to four values are read back
+    back : (vs : List ℕ) → length vs ≤ 4 → take (length vs) (padded vs) ≡ vs
+    back [] h = refl
+    back (a ∷ []) h = refl
+    back (a ∷ b ∷ []) h = refl
+    back (a ∷ b ∷ c ∷ []) h = refl
+    back (a ∷ b ∷ c ∷ d ∷ []) h = refl
+    back (a ∷ b ∷ c ∷ d ∷ e ∷ vs) h = absurd (omega arith)

@@ -18,12 +18,12 @@ case_of k (zero ∷ vs) = Again
 case_of k (suc zero ∷ vs) = Look (get_or vs 0 0)
 case_of k (suc (suc j) ∷ vs) = Done (get_or vs 0 0)
 
-read_back : (a : Step) → case_of (answer_of a).number (answer_of a).values ≡ a
-read_back Again = refl
-read_back (Look c) = refl
-read_back (Done h) = refl
-read_back (Declined k) = refl
-
 -- the definition of numbers is one to one
 pub one_to_one : OneToOne answer_of
-one_to_one = read_back_one_to_one case_of read_back
+one_to_one = read_back_one_to_one case_of back
+  where
+    back : (a : Step) → case_of (answer_of a).number (answer_of a).values ≡ a
+    back Again = refl
+    back (Look c) = refl
+    back (Done h) = refl
+    back (Declined k) = refl

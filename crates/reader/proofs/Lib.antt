@@ -1,0 +1,2 @@
+-- What the contents of a field are, at every position.
+pub mod Handing
