@@ -192,14 +192,14 @@
    which took some 3,200 bytes more.
 
       ring_new           128        ring_lookup        192
-      ring_join          192        ring_held          128
-      ring_stabilize     320        ring_principal      64
+      ring_join          256        ring_held          128
+      ring_stabilize     320        ring_principal     128
       ring_rectify       256        ring_audit        2816
-      ring_round        1856        ring_findings     3328
-      ring_settle       1920        ring_alike         128
+      ring_round        1792        ring_findings     3840
+      ring_settle       1792        ring_alike         128
       ring_is_open       128        ring_take_over      64
       ring_next_open      64        ring_image_write   128
-      ring_settle_at    2432        ring_image_read    128
+      ring_settle_at    2432        ring_image_read    192
       ring_fail          128        ring_image_field    64
       ring_leave       15104
 

@@ -7,8 +7,9 @@
 use std::collections::{BTreeMap, BTreeSet};
 
 /// Words in backticks, and dependencies of crates, that are not ours: of the toolchain, of Rust, of C, of the shell. Sorted.
-const NOT_OURS: &str = "END GLIBC_TUNABLES List axioms cargo copy_within get_unchecked io libc libraries-built logic-built memmove mut \
-                        native no-vectorize-loops no-vectorize-slp rattle-kit-5b-plain requires rustc stdio.h stdlib.h target";
+const NOT_OURS: &str = "END GLIBC_TUNABLES List __xpg_strerror_r axioms cargo copy_within get_unchecked incremental libraries-built logic-built lseek \
+                        memmove mut native no-vectorize-loops no-vectorize-slp rattle-kit-13f rattle-kit-5b-plain rattle_errno requires \
+                        result rustc statements stdio.h stdlib.h target";
 const DEFINITIONS: &str = "model"; // the crate of the column "definitions (model)"
 const THEOREMS: &str = "theory"; // the crate of a module that is named without one
 const PICTURED: &str = "docs/ARCHITECTURE.md"; // the page with the floors and, fenced, the picture
@@ -26,7 +27,7 @@ fn load(root: &str, below: &str, tree: &mut Tree) -> std::io::Result<()> {
         let path = format!("{below}{}", entry?.file_name().to_string_lossy());
         if let Ok(bytes) = std::fs::read(format!("{root}/{path}")) {
             tree.insert(path, String::from_utf8_lossy(&bytes).into_owned());
-        } else if !["target", ".git"].contains(&path.rsplit('/').next().unwrap()) {
+        } else if !["target", ".git", "out"].contains(&path.rsplit('/').next().unwrap()) {
             load(root, &format!("{path}/"), tree)?;
         }
     }
@@ -154,7 +155,7 @@ impl<'a> Check<'a> {
 
     /// A span in backticks: one name; or a command, a session's line, an expression, of which what can only be a name counts.
     fn span(&mut self, text: &str) {
-        if let ["rt", "check" | "staticlib", name, ..] = text.split_whitespace().collect::<Vec<_>>()[..] {
+        if let ["rt", "ci" | "must-fail", name, ..] = text.split_whitespace().collect::<Vec<_>>()[..] {
             self.demand(self.is_crate(name), "crate", name, "no such crate");
         }
         let parts = text.split(|c: char| c.is_whitespace() || "()[]{}<>,;\"'=&|^%#!?".contains(c));
@@ -185,9 +186,9 @@ impl<'a> Check<'a> {
         let all = |file: &str, names| parts.iter().all(|p| any_like(names, p) || file.ends_with(&format!("/{p}")));
         listed(NOT_OURS, text) || files.iter().any(|(file, names)| all(file, names))
     }
-    /// A path from the root or from some folder, its ending left out or not; NAME, NN and F stand for any name.
+    /// A path from the root or from some folder, its ending left out or not; NAME, NN and F stand for any name. Of what is built the crate.
     fn is_there(&self, text: &str) -> bool {
-        let path = text.replace("NAME", "*").replace("NN", "*").replace("/F/", "/*/");
+        let path = text.split_once("/out/").map_or(text, |(home, _)| home).replace("NAME", "*").replace("NN", "*").replace("/F/", "/*/");
         let forms = [path.clone(), format!("{path}.*"), format!("*/{path}"), format!("*/{path}.*")];
         text.starts_with("target/") || listed(NOT_OURS, text) || forms.iter().any(|f| any_like(&self.paths, f))
     }
@@ -268,14 +269,13 @@ impl<'a> Check<'a> {
         self.bind(&names(before.rsplit(apart).next().unwrap_or(before)), &places);
     }
 
-    /// model's `Calls`, theory's Passed, laws' image-length; model's an_edit and another_edit, reader's edits an_edit
+    /// model's `Calls`, theory's Passed, laws' `image_length`; model's an_edit and another_edit, reader's edits an_edit
     fn possessive(&mut self, before: &[&str], rest: &[&str]) {
         let home = before.last().map_or("", |t| t.trim_matches('`'));
         let article = before.iter().rev().nth(1).is_some_and(|t| listed("a an the each its", t));
         let rest = if self.is_crate(home) && !article { rest } else { &[] };
         self.edits(home, rest, false);
-        let named = |w: &str| is_module(w) || w.contains('-') && w != "must-fail";
-        for name in rest.iter().take(1).filter_map(|w| name(w).or(Some(*w).filter(|w| named(w)))) {
+        for name in rest.iter().take(1).filter_map(|w| name(w).or(Some(*w).filter(|w| is_module(w)))) {
             let there = !self.at((home, name)).is_empty() || self.declares((home, ""), name);
             self.demand(there, "", name, &format!("neither a module of {home} nor declared in it"));
         }
@@ -396,7 +396,7 @@ impl<'a> Check<'a> {
             here.extend(title.into_iter().chain(names(&tokens(first))));
         }
         let entry = |l: &&str| l.starts_with("# Floor ") || l.contains(':') && !l.starts_with('#');
-        let plain = |l: &'a str| l.strip_prefix("# ").unwrap_or(l.split(':').next().unwrap());
+        let plain = |l: &'a str| l.strip_prefix("# ").unwrap_or(l.split([':', ' ']).next().unwrap());
         let there: Vec<&str> = self.tree[LISTED].lines().filter(entry).map(plain).collect();
         let same = here.iter().zip(&there).take_while(|(a, b)| a == b).count();
         here.iter().for_each(|e| self.demand(true, "placed", e, ""));
@@ -417,7 +417,7 @@ fn check(tree: &Tree) -> Vec<Named> {
         check.tree.insert(path, text);
     }
     let lines = tree[LISTED].lines().filter(|l| !l.starts_with('#'));
-    check.crates = lines.filter_map(|l| l.split_once(':')).collect();
+    check.crates = lines.filter_map(|l| l.split_once(':').map(|(head, needs)| (head.split(' ').next().unwrap(), needs))).collect();
     for (page, text) in tree.iter().filter(|(path, _)| path.ends_with(".md") || *path == LISTED) {
         (check.page, check.text) = (page, text);
         match page.rsplit_once('/').map_or("", |(folder, _)| folder) {
@@ -438,7 +438,7 @@ fn changed(tree: &Tree, way: &str, (page, _, kind, token, _): &Named) -> Option<
         ("left out of the page", "placed") => (&page[..], format!("`{token}`"), String::new()),
         ("moved to the floor before", "placed") => {
             let lines: Vec<&str> = tree[LISTED].lines().collect();
-            let own = lines.iter().position(|l| l.starts_with(&format!("{token}:")))?;
+            let own = lines.iter().position(|l| l.split([':', ' ']).next() == Some(token))?;
             let title = lines[..own].iter().rposition(|l| l.starts_with("# Floor "))?;
             let moved = [&lines[own..=own], &lines[title..own]].concat();
             (LISTED, lines[title..=own].join("\n"), moved.join("\n"))
