@@ -14,8 +14,8 @@ const DEFINITIONS: &str = "model"; // the crate of the column "definitions (mode
 const THEOREMS: &str = "theory"; // the crate of a module that is named without one
 const PICTURED: &str = "docs/ARCHITECTURE.md"; // the page with the floors and, fenced, the picture
 const LISTED: &str = "crates.txt";
+const PORTED: &str = "docs/PORT.md"; // it tells of names that were, as the notes in docs/changes do
 const PARENS: [char; 2] = ['(', ')'];
-
 type Tree = BTreeMap<String, String>;
 type Set<'a> = BTreeSet<&'a str>;
 type Place<'a> = (&'a str, &'a str); // a crate, and a module or folder of it, or "" for all of it
@@ -422,7 +422,7 @@ fn check(tree: &Tree) -> Vec<Named> {
         (check.page, check.text) = (page, text);
         match page.rsplit_once('/').map_or("", |(folder, _)| folder) {
             _ if page == LISTED => check.crates(),
-            "" | "docs" => check.page(),
+            "" | "docs" if page != PORTED => check.page(),
             _ => text.split("](").skip(1).for_each(|t| check.link(t.split(')').next().unwrap())),
         }
         if page == PICTURED {
