@@ -1,5 +1,6 @@
 // Pages cannot rot: every crate, module, theorem, definition, must-fail edit and file that README.md and docs/*.md name is there, in the
-// module that they say, and docs/ARCHITECTURE.md has the floors of crates.txt. Pages in other folders are read for their links alone.
+// module that they say, and docs/ARCHITECTURE.md has the floors of crates.txt. Pages in other folders, and docs/PORT.md, are read for their links
+// alone.
 //
 // pages [--root DIR]              a line for each name that is not there, and exit 1; else one line
 // pages --self-test [--root DIR]  changes one name after the other, in memory; exit 1 if a change is not refused
