@@ -1,6 +1,5 @@
 // Pages cannot rot: every crate, module, theorem, definition, must-fail edit and file that README.md and docs/*.md name is there, in the
-// module that they say, and docs/ARCHITECTURE.md has the floors of crates.txt. Pages in other folders, and docs/PORT.md, are read for their links
-// alone.
+// module that they say, and docs/ARCHITECTURE.md has the floors of crates.txt. Other folders' pages, and docs/PORT.md, are read for links alone.
 //
 // pages [--root DIR]              a line for each name that is not there, and exit 1; else one line
 // pages --self-test [--root DIR]  changes one name after the other, in memory; exit 1 if a change is not refused
@@ -17,6 +16,7 @@ const PICTURED: &str = "docs/ARCHITECTURE.md"; // the page with the floors and, 
 const LISTED: &str = "crates.txt";
 const PORTED: &str = "docs/PORT.md"; // it tells of names that were, as the notes in docs/changes do
 const PARENS: [char; 2] = ['(', ')'];
+
 type Tree = BTreeMap<String, String>;
 type Set<'a> = BTreeSet<&'a str>;
 type Place<'a> = (&'a str, &'a str); // a crate, and a module or folder of it, or "" for all of it
