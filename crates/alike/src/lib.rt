@@ -19,6 +19,9 @@ fn four_same(u: &[u32], v: &[u32]) -> bool
     (u[0] == v[0]) & (u[1] == v[1]) & (u[2] == v[2]) & (u[3] == v[3])
 }
 
+// How many words are compared at once.
+const AT_ONCE: usize = 4;
+
 // Are the records that the two parts hold equal but for their step counts? The first four words, the four just before the count, and, of lists of more than
 // four, the list's first four: these are all words but the count, some of them twice.
 fn record_alike(u: &[u32], v: &[u32], r: usize) -> bool
@@ -28,7 +31,7 @@ fn record_alike(u: &[u32], v: &[u32], r: usize) -> bool
     if !four_same(u, v) {
         return false;
     }
-    if 4 < r {
+    if AT_ONCE < r {
         if !four_same(&u[words::LIST..], &v[words::LIST..]) {
             return false;
         }

@@ -9,6 +9,7 @@ use Rattle.model.specs.Steps.{stabilized}
 use Rattle.model.specs.Settle.{is_done, last_step}
 use Rattle.model.specs.Calls.{written}
 use Rattle.turns.proofs.Lasting.{good_formed, good_still}
+use Rattle.std.proofs.Common.{rules}
 use Rattle.turns.proofs.Steps.{not_done, is_done_law, done_true, step_words, stepped, noticed}
 use Rattle.turns.proofs.step.Goals as goal
 
@@ -26,7 +27,7 @@ pub returns-in_default : goal.returns-in_default
 returns-in_default c =
     let left : let a = c.args in c.stabilize_at.new.t ≡ written (stabilized a.n (table_of a.t.now)) a.t.now = step_words c.args.t.now (good_formed c.requires.good) c.args.k c.args.n c.requires.stands _ c.stabilize_at.ensures.1 in
     told c.args.t.now c.args.n false _ (not_done c.args.t.now (good_formed c.requires.good) c.args.k c.args.n c.requires.stands
-    c.stabilize_at.result c.stabilize_at.ensures.0 c.in_default.not-Done) left
+    c.stabilize_at.result c.stabilize_at.ensures.0 (search rules)) left
 
 pub deliver-requires : goal.deliver-requires
 deliver-requires c =
