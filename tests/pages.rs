@@ -16,7 +16,6 @@ const PICTURED: &str = "docs/ARCHITECTURE.md"; // the page with the floors and, 
 const LISTED: &str = "crates.txt";
 const PORTED: &str = "docs/PORT.md"; // it tells of names that were, as the notes in docs/changes do
 const PARENS: [char; 2] = ['(', ')'];
-
 type Tree = BTreeMap<String, String>;
 type Set<'a> = BTreeSet<&'a str>;
 type Place<'a> = (&'a str, &'a str); // a crate, and a module or folder of it, or "" for all of it

@@ -1,21 +1,24 @@
 // The rehearsal program: a session from standard input to standard output.
 #![tactic(auto)]
 
-ghost use Rattle.std.specs.Prelude.{◌≤◌, length, IfOk};
+ghost use Rattle.std.specs.Prelude.{◌≤◌, ◌<◌, length, take, IfOk};
+ghost use Rattle.std.specs.Io.KnownBytes.{Consumes, IsAtEnd};
 
 use rehearsal::Outcome;
 use std::io;
 use std::io::{Read, Write};
 
-// Reads until the buffer is full or the input ends: how many bytes stand at its front.
+// Reads until the buffer is full or the input ends: how many bytes stand at its front, which are those that the input gave.
 fn read_full<R: Read>(input: &mut R, buf: &mut [u8]) -> io::Result<usize>
-    ensures { IfOk result (λ n. n ≤ length buf.new) }
+    ensures within { IfOk result (λ n. n ≤ length buf.new) }
+    ensures given { IfOk result (λ n. Consumes (R.remaining input.old) (R.remaining input.new) (take n buf.new)) }
+    ensures ended { IfOk result (λ n. n < length buf.new → IsAtEnd (R.remaining input.new)) }
 {
     let mut at = 0;
     while at < buf.len() {
         let n = input.read(&mut buf[at..])?;
         if n == 0 {
-            break;
+            return Ok(at);
         }
         at += n;
     }
