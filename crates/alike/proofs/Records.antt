@@ -1,5 +1,5 @@
 -- Two records side by side, four words at a time, and two runs of records: one iteration of the loop that compares them. Assumes nothing.
-use Prim.Native.Nat.{ℕ, suc, ◌+◌, ◌-◌, ◌≤◌, ◌<◌}
+use Prim.Native.Nat.{ℕ, zero, suc, ◌+◌, ◌-◌, ◌*◌, ◌≤◌, ◌<◌}
 use mathlib.Core.Path.{◌≡◌, refl, sym, ap, ap₂, ◌∙◌}
 use mathlib.Core.List.{List, [], ◌∷◌, ◌++◌}
 use mathlib.Core.Bool.{Bool, true, false, ◌&&◌, and-false, true≢false}
@@ -7,13 +7,15 @@ use native.Mathlib.Omega.{arith}
 use borrow.Author.Tests.{eq-eqb}
 use lib.Dec.{eqb}
 use lib.ListN.{length, get_or, take, drop}
-use lib.Seq.{take-suc, take-add, take-take, take_at}
+use Rattle.std.proofs.Common.{suc-mul, zero-mul, length-append, length-drop, length-take}
+use Rattle.std.proofs.lemmas.List.{drop_at}
+use lib.Seq.{length-take-le, take-suc, take-add, take-take, take_at}
 use Rattle.model.specs.Lists.{same, same_by}
 use Rattle.model.specs.Table.{Member, header_size, record_size, member_of, members_of, table_of}
 use Rattle.model.specs.Alike.{alike_member, alike}
 use Rattle.laws.specs.Lists.{same_eq, same_refl}
-use Rattle.laws.specs.Parts.{first_member, part_of_part}
-use Rattle.laws.specs.Words.{record_written, record_list}
+use Rattle.laws.specs.Parts.{part_of_part, drop_take}
+use Rattle.laws.specs.Words.{record_written, record_list, member_part}
 
 -- four tests and one more, joined from the left and from the right
 and_right : (a b c d e : Bool) → (a && b && c && d && e) ≡ (a && (b && (c && (d && e))))
@@ -88,16 +90,50 @@ module _ (r : ℕ) (us vs : List ℕ) (first : same (take 4 us) (take 4 vs) ≡ 
   pub more_same : r ≤ 8 → same (take 4 (drop 4 us)) (take 4 (drop 4 vs)) ≡ true → take r us ≡ take r vs
   more_same h next = sym (take-take r 8 us h) ∙ ap (take r) (take-add 4 4 us ∙ ap₂ (λ (l k : List ℕ). l ++ k) (same_eq (take 4 us) (take 4 vs) first) (same_eq (take 4 (drop 4 us)) (take 4 (drop 4 vs)) next) ∙ sym (take-add 4 4 vs)) ∙ take-take r 8 vs h
 
--- the first records' test b settles it, or leaves the others
-module _ (r n : ℕ) (us vs : List ℕ) (b : Bool) (some : 0 < n) (t : b ≡ alike_member (member_of r us) (member_of r vs)) where
-  first_apart : same_by alike_member (members_of r n us) (members_of r n vs) ≡ (b && same_by alike_member (members_of r (n - 1) (drop (record_size r) us)) (members_of r (n - 1) (drop (record_size r) vs)))
-  first_apart = rw (first_member r n us some, first_member r n vs some, t)
+-- the records at the front are those of the words that they take
+pub front : (r n : ℕ) (ws : List ℕ) → n * record_size r ≤ length ws → members_of r n (take (n * record_size r) ws) ≡ members_of r n ws
+front r zero ws h = refl
+front r (suc n) ws h =
+    let w = record_size r in
+    let s = suc-mul n w in
+    let cut = take (suc n * w) ws in
+    let a : take w cut ≡ take w ws = take-take w (suc n * w) ws (omega arith) in
+    let m : member_of r cut ≡ member_of r ws =
+    sym (member_part r w cut refl (simp length-take (omega arith))) ∙ ap (member_of r) a ∙ member_part r w ws refl (omega arith) in
+    let z : suc n * w - w ≡ n * w = omega arith in
+    rw (m, drop_take w (suc n * w) ws, z, front r n (drop w ws) (simp length-drop (omega arith)))
 
-  pub unlike_here : b ≡ false → false ≡ same_by alike_member (members_of r n us) (members_of r n vs)
-  unlike_here e = rw (first_apart, e)
+-- of n records the first, p, and the others
+pub one_record : (r w n size : ℕ) (ws p rest : List ℕ) → w ≡ record_size r → (ws ≡ p ++ rest) × (length p ≡ size) → size ≡ w → length ws ≡ n * w
+    → (members_of r n ws ≡ member_of r p ∷ members_of r (n - 1) rest) × (length rest ≡ (n - 1) * w)
+one_record r w zero size ws p rest e q k h = let z = zero-mul w in let l = ap length q.0 ∙ length-append p rest in absurd (omega arith)
+one_record r w (suc n) size ws p rest e q k h =
+    let s = suc-mul n w in
+    let l = ap length q.0 ∙ length-append p rest in
+    let j : suc n - 1 ≡ n = omega arith in
+    let a : record_size r ≤ length (p ++ rest) = rw (← q.0) (omega arith) in
+    let d : drop (record_size r) (p ++ rest) ≡ rest = drop_at p rest (record_size r) (omega arith) in
+    let m : member_of r (p ++ rest) ≡ member_of r p = sym (member_part r (record_size r) (p ++ rest) refl a) ∙ ap (member_of r) (take_at p rest (record_size r) (omega arith)) in
+    (rw (j, q.0, m, d), rw j (omega arith))
 
-  pub alike_on : b ≡ true → same_by alike_member (members_of r (n - 1) (drop (record_size r) us)) (members_of r (n - 1) (drop (record_size r) vs)) ≡ same_by alike_member (members_of r n us) (members_of r n vs)
-  alike_on e = rw (first_apart, e)
+-- the part that the n records at the front are
+pub cut : (r w n : ℕ) (ws : List ℕ) → w ≡ record_size r → n * record_size r ≤ length ws
+    → (length (take (n * w) ws) ≡ n * w) × (members_of r n (take (n * w) ws) ≡ members_of r n ws)
+cut r w n ws e h = rw e (length-take-le (n * record_size r) ws h, front r n ws h)
+
+-- of two runs of n records the first two, and the others
+pub one_pair : (r w n : ℕ) (us vs u v ps qs : List ℕ) → w ≡ record_size r → us ≡ u ++ ps → vs ≡ v ++ qs → length u ≡ w → length v ≡ w → length us ≡ n * w → length vs ≡ n * w
+    → (length ps ≡ (n - 1) * w) × (length qs ≡ (n - 1) * w)
+    × (same_by alike_member (members_of r n us) (members_of r n vs) ≡ (alike_member (member_of r u) (member_of r v) && same_by alike_member (members_of r (n - 1) ps) (members_of r (n - 1) qs)))
+one_pair r w n us vs u v ps qs e p q lu lv hu hv =
+    let a = one_record r w n w us u ps e (p, lu) refl hu in
+    let b = one_record r w n w vs v qs e (q, lv) refl hv in
+    (a.1, b.1, rw (a.0, b.0))
+
+-- and where none is left, all were alike
+pub none_left : (r w n : ℕ) (ws us vs : List ℕ) → w ≡ record_size r → length ws < w → length ws ≡ n * w → true ≡ same_by alike_member (members_of r n us) (members_of r n vs)
+none_left r w zero ws us vs e h k = refl
+none_left r w (suc n) ws us vs e h k = absurd (omega (arith, suc-mul n w))
 
 -- members of different numbers are not alike
 pub counts_differ : (ms ns : List Member) → (length ms ≡ length ns → ⊥) → same_by alike_member ms ns ≡ false

@@ -9,7 +9,7 @@ ghost use Rattle.model.specs.Calls.{alike_answer};
 ghost use Rattle.table.specs.FormedWords.{FormedWords};
 ghost use Rattle.answers.specs.YesNo.{answer_of};
 
-use answers::yes_no::YesNo;
+use answers::refusal::Refusal;
 
 // Are the first four words equal? All of them are looked at, so that four can be compared at once.
 fn four_same(u: &[u32], v: &[u32]) -> bool
@@ -45,15 +45,9 @@ fn records_alike(us: &[u32], vs: &[u32], r: usize, n: usize) -> bool
     ensures { result ≡ same_by alike_member (members_of r n us.now) (members_of r n vs.now) }
 {
     let w = words::record_size(r);
-    let mut p = us;
-    let mut q = vs;
-    let mut left = n;
-    while 0 < left {
-        if record_alike(&p[..w], &q[..w], r) {
-            p = &p[w..];
-            q = &q[w..];
-            left -= 1;
-        } else {
+    let pairs = us[..n * w].chunks_exact(w).zip(vs[..n * w].chunks_exact(w));
+    for (u, v) in pairs {
+        if !record_alike(u, v, r) {
             return false;
         }
     }
@@ -85,16 +79,11 @@ fn tables_alike(us: &[u32], vs: &[u32]) -> bool
 }
 
 // Are the tables alike: yes or no, or 1 if either is not well-formed.
-pub fn alike(us: &[u32], vs: &[u32]) -> YesNo
+pub fn alike(us: &[u32], vs: &[u32]) -> Result<bool, Refusal>
     ensures { answer_of result ≡ alike_answer us.now vs.now }
 {
-    if table::well_formed(us) {
-        if table::well_formed(vs) {
-            if tables_alike(us, vs) {
-                return YesNo::Yes;
-            }
-            return YesNo::No;
-        }
+    if !table::well_formed(us) || !table::well_formed(vs) {
+        return Err(Refusal::NotWellFormed);
     }
-    YesNo::Declined(1)
+    Ok(tables_alike(us, vs))
 }

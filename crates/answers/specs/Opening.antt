@@ -1,26 +1,29 @@
--- What the question for the next open minute answers: document 02's number and values for each case.
-use Rattle.std.specs.Prelude.{ℕ, zero, suc, ◌≡◌, refl, List, [], ◌∷◌, get_or}
-use Rattle.model.specs.Answer.{Answer, accepted, declined}
+-- What the question for the next open minute answers: document 02's values for each case.
+use Rattle.std.specs.Prelude.{ℕ, zero, suc, ◌≡◌, refl, List, [], ◌∷◌, get_or, Some, None}
+use Rattle.std.proofs.Common.{Result}
+use Rattle.model.specs.Answer.{Answer}
 use Rattle.answers.specs.ReadBack.{OneToOne, read_back_one_to_one}
-use Rattle.answers.specs.declared.opening.Opening.{Opening}
-use Rattle.answers.specs.declared.opening.Opening.TheVariants.{At, Never, Declined}
+use Rattle.answers.specs.Answered.{answered}
+use Rattle.answers.specs.Refusal.{refused}
+use Rattle.answers.specs.declared.refusal.Refusal.{Refusal}
+use Rattle.std.proofs.Common.{Option}
 
-abbrev pub answer_of : Opening → Answer
-answer_of (At m) = accepted (1 ∷ m ∷ [])
-answer_of Never = accepted (0 ∷ [])
-answer_of (Declined k) = declined k
+abbrev pub values_of : Option ℕ → List ℕ
+values_of (Some m) = 1 ∷ m ∷ []
+values_of None = 0 ∷ []
 
--- the case that a number and values are
-abbrev case_of : ℕ → List ℕ → Opening
-case_of k [] = Declined k
-case_of k (zero ∷ vs) = Never
-case_of k (suc j ∷ vs) = At (get_or vs 0 0)
+-- the reply that values are
+abbrev of_values : List ℕ → Option ℕ
+of_values [] = None
+of_values (zero ∷ vs) = None
+of_values (suc j ∷ vs) = Some (get_or vs 0 0)
 
--- the definition of numbers is one to one
-pub one_to_one : OneToOne answer_of
-one_to_one = read_back_one_to_one case_of back
+pub values_one_to_one : OneToOne values_of
+values_one_to_one = read_back_one_to_one of_values back
   where
-    back : (a : Opening) → case_of (answer_of a).number (answer_of a).values ≡ a
-    back (At m) = refl
-    back Never = refl
-    back (Declined k) = refl
+    back : (a : Option ℕ) → of_values (values_of a) ≡ a
+    back (Some m) = refl
+    back None = refl
+
+abbrev pub answer_of : Result (Option ℕ) Refusal → Answer
+answer_of a = answered values_of refused a

@@ -1,23 +1,28 @@
--- What an audit answers: document 01's number and values for each case.
-use Rattle.std.specs.Prelude.{ℕ, ◌≡◌, refl, List, [], ◌∷◌, get_or}
-use Rattle.model.specs.Answer.{Answer, accepted, declined}
+-- What an audit answers: document 01's values, in its order.
+use Rattle.std.specs.Prelude.{ℕ, ◌≡◌, List, [], ◌∷◌, get_or}
+use Rattle.std.proofs.Common.{Result}
+use Rattle.model.specs.Answer.{Answer}
 use Rattle.answers.specs.ReadBack.{OneToOne, read_back_one_to_one}
+use Rattle.answers.specs.Answered.{answered}
+use Rattle.answers.specs.Refusal.{refused}
+use Rattle.answers.specs.declared.refusal.Refusal.{Refusal}
+use Rattle.std.proofs.Common.{ap}
+use Rattle.answers.specs.Verdict.{number_of, verdict_of, number_read_back}
+use Rattle.answers.specs.declared.report.Verdict.{Verdict}
 use Rattle.answers.specs.declared.report.Report.{Report}
-use Rattle.answers.specs.declared.report.Report.TheVariants.{Audited, Declined}
 
-abbrev pub answer_of : Report → Answer
-answer_of (Audited members principals ring verdict) = accepted (members ∷ principals ∷ ring ∷ verdict ∷ [])
-answer_of (Declined k) = declined k
+abbrev pub values_of : Report → List ℕ
+values_of a = a.members ∷ a.principals ∷ a.ring_members ∷ number_of a.verdict ∷ []
 
--- the case that a number and values are
-abbrev case_of : ℕ → List ℕ → Report
-case_of k [] = Declined k
-case_of k (n ∷ vs) = Audited n (get_or vs 0 0) (get_or vs 1 0) (get_or vs 2 0)
+-- the reply that values are
+abbrev of_values : List ℕ → Report
+of_values vs = record { members = get_or vs 0 0; principals = get_or vs 1 0; ring_members = get_or vs 2 0; verdict = verdict_of (get_or vs 3 0) }
 
-read_back : (a : Report) → case_of (answer_of a).number (answer_of a).values ≡ a
-read_back (Audited members principals ring verdict) = refl
-read_back (Declined k) = refl
+pub values_one_to_one : OneToOne values_of
+values_one_to_one = read_back_one_to_one of_values back
+  where
+    back : (a : Report) → of_values (values_of a) ≡ a
+    back a = ap (λ (v : Verdict). record { members = a.members; principals = a.principals; ring_members = a.ring_members; verdict = v }) (number_read_back a.verdict)
 
--- the definition of numbers is one to one
-pub one_to_one : OneToOne answer_of
-one_to_one = read_back_one_to_one case_of read_back
+abbrev pub answer_of : Result Report Refusal → Answer
+answer_of a = answered values_of refused a

@@ -1,23 +1,23 @@
--- What a round answers: document 02's number and values for each case.
-use Rattle.std.specs.Prelude.{ℕ, ◌≡◌, refl, List, [], ◌∷◌}
-use Rattle.model.specs.Answer.{Answer, accepted, declined}
+-- What a round answers: document 02's value, the verdict.
+use Rattle.std.specs.Prelude.{ℕ, List, [], ◌∷◌, get_or}
+use Rattle.std.proofs.Common.{Result}
+use Rattle.model.specs.Answer.{Answer}
 use Rattle.answers.specs.ReadBack.{OneToOne, read_back_one_to_one}
-use Rattle.answers.specs.declared.round_verdict.RoundVerdict.{RoundVerdict}
-use Rattle.answers.specs.declared.round_verdict.RoundVerdict.TheVariants.{Is, Declined}
+use Rattle.answers.specs.Answered.{answered}
+use Rattle.answers.specs.Refusal.{refused}
+use Rattle.answers.specs.declared.refusal.Refusal.{Refusal}
+use Rattle.answers.specs.Verdict.{number_of, verdict_of, number_read_back}
+use Rattle.answers.specs.declared.report.Verdict.{Verdict}
 
-abbrev pub answer_of : RoundVerdict → Answer
-answer_of (Is v) = accepted (v ∷ [])
-answer_of (Declined k) = declined k
+abbrev pub values_of : Verdict → List ℕ
+values_of v = number_of v ∷ []
 
--- the case that a number and values are
-abbrev case_of : ℕ → List ℕ → RoundVerdict
-case_of k [] = Declined k
-case_of k (v ∷ vs) = Is v
+-- the reply that values are
+abbrev of_values : List ℕ → Verdict
+of_values vs = verdict_of (get_or vs 0 0)
 
-read_back : (a : RoundVerdict) → case_of (answer_of a).number (answer_of a).values ≡ a
-read_back (Is v) = refl
-read_back (Declined k) = refl
+pub values_one_to_one : OneToOne values_of
+values_one_to_one = read_back_one_to_one of_values number_read_back
 
--- the definition of numbers is one to one
-pub one_to_one : OneToOne answer_of
-one_to_one = read_back_one_to_one case_of read_back
+abbrev pub answer_of : Result Verdict Refusal → Answer
+answer_of a = answered values_of refused a

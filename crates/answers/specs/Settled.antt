@@ -1,23 +1,28 @@
--- What settle answers, with windows too: document 02's number and values for each case.
-use Rattle.std.specs.Prelude.{ℕ, ◌≡◌, refl, List, [], ◌∷◌, get_or}
-use Rattle.model.specs.Answer.{Answer, accepted, declined}
+-- What settle answers, with windows too: document 02's values, in its order.
+use Rattle.std.specs.Prelude.{ℕ, ◌≡◌, List, [], ◌∷◌, get_or}
+use Rattle.std.proofs.Common.{Result}
+use Rattle.model.specs.Answer.{Answer}
 use Rattle.answers.specs.ReadBack.{OneToOne, read_back_one_to_one}
+use Rattle.answers.specs.Answered.{answered}
+use Rattle.answers.specs.Refusal.{refused}
+use Rattle.answers.specs.declared.refusal.Refusal.{Refusal}
+use Rattle.std.proofs.Common.{ap}
+use Rattle.answers.specs.Verdict.{number_of, verdict_of, number_read_back}
+use Rattle.answers.specs.declared.report.Verdict.{Verdict}
 use Rattle.answers.specs.declared.settled.Settled.{Settled}
-use Rattle.answers.specs.declared.settled.Settled.TheVariants.{Ran, Declined}
 
-abbrev pub answer_of : Settled → Answer
-answer_of (Ran rounds v passed) = accepted (rounds ∷ v ∷ passed ∷ [])
-answer_of (Declined k) = declined k
+abbrev pub values_of : Settled → List ℕ
+values_of a = a.rounds ∷ number_of a.verdict ∷ a.passed ∷ []
 
--- the case that a number and values are
-abbrev case_of : ℕ → List ℕ → Settled
-case_of k [] = Declined k
-case_of k (rounds ∷ vs) = Ran rounds (get_or vs 0 0) (get_or vs 1 0)
+-- the reply that values are
+abbrev of_values : List ℕ → Settled
+of_values vs = record { rounds = get_or vs 0 0; verdict = verdict_of (get_or vs 1 0); passed = get_or vs 2 0 }
 
-read_back : (a : Settled) → case_of (answer_of a).number (answer_of a).values ≡ a
-read_back (Ran rounds v passed) = refl
-read_back (Declined k) = refl
+pub values_one_to_one : OneToOne values_of
+values_one_to_one = read_back_one_to_one of_values back
+  where
+    back : (a : Settled) → of_values (values_of a) ≡ a
+    back a = ap (λ (v : Verdict). record { rounds = a.rounds; verdict = v; passed = a.passed }) (number_read_back a.verdict)
 
--- the definition of numbers is one to one
-pub one_to_one : OneToOne answer_of
-one_to_one = read_back_one_to_one case_of read_back
+abbrev pub answer_of : Result Settled Refusal → Answer
+answer_of a = answered values_of refused a

@@ -1,26 +1,27 @@
--- What the principal test answers: document 02's number and values for each case.
-use Rattle.std.specs.Prelude.{ℕ, zero, suc, ◌≡◌, refl, List, [], ◌∷◌, get_or}
-use Rattle.model.specs.Answer.{Answer, accepted, declined}
+-- What the principal test answers: document 02's values, 1 or 0 and the pairs taken.
+use Rattle.std.specs.Prelude.{ℕ, ◌≡◌, refl, List, [], ◌∷◌, get_or, ltb, Bool, true, false}
+use Rattle.std.proofs.Common.{Result, ap}
+use Rattle.model.specs.Answer.{Answer}
 use Rattle.answers.specs.ReadBack.{OneToOne, read_back_one_to_one}
+use Rattle.answers.specs.Answered.{answered}
+use Rattle.answers.specs.Refusal.{refused}
+use Rattle.answers.specs.declared.refusal.Refusal.{Refusal}
+use Rattle.model.specs.Lists.{bit}
 use Rattle.answers.specs.declared.tested.Tested.{Tested}
-use Rattle.answers.specs.declared.tested.Tested.TheVariants.{Principal, Skipped, Declined}
 
-abbrev pub answer_of : Tested → Answer
-answer_of (Principal pairs) = accepted (1 ∷ pairs ∷ [])
-answer_of (Skipped pairs) = accepted (0 ∷ pairs ∷ [])
-answer_of (Declined k) = declined k
+abbrev pub values_of : Tested → List ℕ
+values_of a = bit a.principal ∷ a.pairs ∷ []
 
--- the case that a number and values are
-abbrev case_of : ℕ → List ℕ → Tested
-case_of k [] = Declined k
-case_of k (zero ∷ vs) = Skipped (get_or vs 0 0)
-case_of k (suc j ∷ vs) = Principal (get_or vs 0 0)
+-- the reply that values are
+abbrev of_values : List ℕ → Tested
+of_values vs = record { principal = ltb 0 (get_or vs 0 0); pairs = get_or vs 1 0 }
 
-read_back : (a : Tested) → case_of (answer_of a).number (answer_of a).values ≡ a
-read_back (Principal pairs) = refl
-read_back (Skipped pairs) = refl
-read_back (Declined k) = refl
+pub values_one_to_one : OneToOne values_of
+values_one_to_one = read_back_one_to_one of_values (λ a. ap (λ (b : Bool). record { principal = b; pairs = a.pairs }) (bit_back a.principal))
+  where
+    bit_back : (b : Bool) → ltb 0 (bit b) ≡ b
+    bit_back true = refl
+    bit_back false = refl
 
--- the definition of numbers is one to one
-pub one_to_one : OneToOne answer_of
-one_to_one = read_back_one_to_one case_of read_back
+abbrev pub answer_of : Result Tested Refusal → Answer
+answer_of a = answered values_of refused a

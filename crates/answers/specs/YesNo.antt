@@ -1,26 +1,28 @@
--- What a question that is answered by yes or no answers, alike for one: the documents' number and values for each case.
-use Rattle.std.specs.Prelude.{ℕ, zero, suc, ◌≡◌, refl, List, [], ◌∷◌}
-use Rattle.model.specs.Answer.{Answer, accepted, declined}
+-- A question answered by yes or no: document 02's values, 1 or 0.
+use Rattle.std.specs.Prelude.{ℕ, zero, suc, ◌≡◌, refl, Bool, true, false, List, [], ◌∷◌}
+use Rattle.std.proofs.Common.{Result}
+use Rattle.model.specs.Answer.{Answer}
 use Rattle.answers.specs.ReadBack.{OneToOne, read_back_one_to_one}
-use Rattle.answers.specs.declared.yes_no.YesNo.{YesNo}
-use Rattle.answers.specs.declared.yes_no.YesNo.TheVariants.{Yes, No, Declined}
+use Rattle.answers.specs.Answered.{answered}
+use Rattle.answers.specs.Refusal.{refused}
+use Rattle.answers.specs.declared.refusal.Refusal.{Refusal}
 
-abbrev pub answer_of : YesNo → Answer
-answer_of Yes = accepted (1 ∷ [])
-answer_of No = accepted (0 ∷ [])
-answer_of (Declined k) = declined k
+abbrev pub values_of : Bool → List ℕ
+values_of true = 1 ∷ []
+values_of false = 0 ∷ []
 
--- the case that a number and values are
-abbrev case_of : ℕ → List ℕ → YesNo
-case_of k [] = Declined k
-case_of k (zero ∷ vs) = No
-case_of k (suc j ∷ vs) = Yes
+-- the reply that values are
+abbrev of_values : List ℕ → Bool
+of_values [] = false
+of_values (zero ∷ vs) = false
+of_values (suc j ∷ vs) = true
 
-read_back : (a : YesNo) → case_of (answer_of a).number (answer_of a).values ≡ a
-read_back Yes = refl
-read_back No = refl
-read_back (Declined k) = refl
+pub values_one_to_one : OneToOne values_of
+values_one_to_one = read_back_one_to_one of_values back
+  where
+    back : (a : Bool) → of_values (values_of a) ≡ a
+    back true = refl
+    back false = refl
 
--- the definition of numbers is one to one
-pub one_to_one : OneToOne answer_of
-one_to_one = read_back_one_to_one case_of read_back
+abbrev pub answer_of : Result Bool Refusal → Answer
+answer_of a = answered values_of refused a

@@ -1,31 +1,23 @@
 // What reading one field of an image answers.
-ghost use Rattle.answers.specs.Packed.{Says};
-ghost use Rattle.answers.specs.Field.{answer_of};
+ghost use Rattle.answers.specs.Field.{values_of, values_one_to_one};
 
-use crate::Answer;
+use crate::{Answer, Reply};
 
-// The field at a position, or the number that declines it.
-#[derive(Clone, Copy)]
-pub enum Field {
-    // tag, start and length of its contents, next position
-    At(u32, u32, u32, u32),
-    Declined(u32),
+// The field at a position: its tag, start and length of its contents, and the next position.
+#[derive(Clone, Copy, PartialEq, Eq)]
+pub struct Field {
+    pub tag: u32,
+    pub start: u32,
+    pub size: u32,
+    pub next: u32,
 }
 
-// The answer in numbers.
-pub fn numbers(a: Field) -> Answer
-    ensures { Says result (answer_of a) }
-{
-    match a {
-        Field::At(tag, start, size, next) => Answer {
-            number: 0,
-            values: [tag, start, size, next],
-            count: 4,
-        },
-        Field::Declined(k) => Answer {
-            number: k,
-            values: [0, 0, 0, 0],
-            count: 0,
-        },
+impl Reply for Field {
+    ghost values_of = { values_of };
+
+    fn numbers(self) -> Answer {
+        crate::accepted(&[self.tag, self.start, self.size, self.next])
     }
+
+    ghost one_to_one = { values_one_to_one };
 }

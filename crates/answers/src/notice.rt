@@ -1,38 +1,26 @@
 // What a rectify step answers.
-ghost use Rattle.answers.specs.Packed.{Says};
-ghost use Rattle.answers.specs.Notice.{answer_of};
+ghost use Rattle.answers.specs.Notice.{values_of, values_one_to_one};
 
-use crate::Answer;
+use crate::{Answer, Reply};
 
-// What became of the notice, or the number that declines it.
-#[derive(Clone, Copy)]
+// What became of the notice.
+#[derive(Clone, Copy, PartialEq, Eq)]
 pub enum Notice {
     // it was written
     New,
     // it was not
     Same,
-    Declined(u32),
 }
 
-// The answer in numbers.
-pub fn numbers(a: Notice) -> Answer
-    ensures { Says result (answer_of a) }
-{
-    match a {
-        Notice::New => Answer {
-            number: 0,
-            values: [1, 0, 0, 0],
-            count: 1,
-        },
-        Notice::Same => Answer {
-            number: 0,
-            values: [0, 0, 0, 0],
-            count: 1,
-        },
-        Notice::Declined(k) => Answer {
-            number: k,
-            values: [0, 0, 0, 0],
-            count: 0,
-        },
+impl Reply for Notice {
+    ghost values_of = { values_of };
+
+    fn numbers(self) -> Answer {
+        match self {
+            Notice::New => crate::accepted(&[1]),
+            Notice::Same => crate::accepted(&[0]),
+        }
     }
+
+    ghost one_to_one = { values_one_to_one };
 }

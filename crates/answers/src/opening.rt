@@ -1,37 +1,17 @@
-// What the question for the next open minute answers.
-ghost use Rattle.answers.specs.Packed.{Says};
-ghost use Rattle.answers.specs.Opening.{answer_of};
+// What the question for the next open minute answers: the minute of the week, or that there is none.
+ghost use Rattle.answers.specs.Opening.{values_of, values_one_to_one};
 
-use crate::Answer;
+use crate::{Answer, Reply};
 
-// The next open minute of the week, that there is none, or the number that declines the question.
-#[derive(Clone, Copy)]
-pub enum Opening {
-    // the minute
-    At(u32),
-    Never,
-    Declined(u32),
-}
+impl Reply for Option<u32> {
+    ghost values_of = { values_of };
 
-// The answer in numbers.
-pub fn numbers(a: Opening) -> Answer
-    ensures { Says result (answer_of a) }
-{
-    match a {
-        Opening::At(m) => Answer {
-            number: 0,
-            values: [1, m, 0, 0],
-            count: 2,
-        },
-        Opening::Never => Answer {
-            number: 0,
-            values: [0, 0, 0, 0],
-            count: 1,
-        },
-        Opening::Declined(k) => Answer {
-            number: k,
-            values: [0, 0, 0, 0],
-            count: 0,
-        },
+    fn numbers(self) -> Answer {
+        match self {
+            Some(m) => crate::accepted(&[1, m]),
+            None => crate::accepted(&[0]),
+        }
     }
+
+    ghost one_to_one = { values_one_to_one };
 }

@@ -1,31 +1,61 @@
-// What an audit answers.
-ghost use Rattle.answers.specs.Packed.{Says};
-ghost use Rattle.answers.specs.Report.{answer_of};
+// What an audit answers, and the verdict, which a round answers alone.
+ghost use Rattle.std.specs.Prelude.{◌≡◌};
+ghost use Rattle.answers.specs.Verdict.{number_of};
+ghost use Rattle.answers.specs.Report.{values_of, values_one_to_one};
+ghost use Rattle.answers.specs.RoundVerdict.{values_of as verdict_values, values_one_to_one as verdicts_one_to_one};
 
-use crate::Answer;
+use crate::{Answer, Reply};
 
-// The audit, or the number that declines it.
-#[derive(Clone, Copy)]
-pub enum Report {
-    // members, principals, ring members, verdict
-    Audited(u32, u32, u32, u32),
-    Declined(u32),
+// The verdict on a table.
+#[derive(Clone, Copy, PartialEq, Eq)]
+pub enum Verdict {
+    // 0
+    NotSound,
+    // 1: sound, and not ideal
+    Sound,
+    // 2: sound and ideal
+    Ideal,
 }
 
-// The answer in numbers.
-pub fn numbers(a: Report) -> Answer
-    ensures { Says result (answer_of a) }
-{
-    match a {
-        Report::Audited(members, principals, ring, verdict) => Answer {
-            number: 0,
-            values: [members, principals, ring, verdict],
-            count: 4,
-        },
-        Report::Declined(k) => Answer {
-            number: k,
-            values: [0, 0, 0, 0],
-            count: 0,
-        },
+// The audit of a table.
+#[derive(Clone, Copy, PartialEq, Eq)]
+pub struct Report {
+    pub members: u32,
+    pub principals: u32,
+    pub ring_members: u32,
+    pub verdict: Verdict,
+}
+
+impl From<Verdict> for u32 {
+    ghost from_gives = { λ verdict n. n ≡ number_of verdict };
+
+    fn from(verdict: Verdict) -> u32 {
+        match verdict {
+            Verdict::NotSound => 0,
+            Verdict::Sound => 1,
+            Verdict::Ideal => 2,
+        }
     }
+}
+
+impl Reply for Verdict {
+    ghost values_of = { verdict_values };
+
+    fn numbers(self) -> Answer {
+        let verdict = u32::from(self);
+        crate::accepted(&[verdict])
+    }
+
+    ghost one_to_one = { verdicts_one_to_one };
+}
+
+impl Reply for Report {
+    ghost values_of = { values_of };
+
+    fn numbers(self) -> Answer {
+        let verdict = u32::from(self.verdict);
+        crate::accepted(&[self.members, self.principals, self.ring_members, verdict])
+    }
+
+    ghost one_to_one = { values_one_to_one };
 }

@@ -1,22 +1,24 @@
 // The runs of keys that a member holds: what held answers. Positions are counts of keys, so they are of type usize.
 ghost use Rattle.std.specs.Prelude.{◌≡◌};
-ghost use Rattle.answers.specs.Runs.{answer_of, packed};
+ghost use Rattle.answers.specs.Answered.{answered};
+ghost use Rattle.answers.specs.Runs.{values_of, packed};
+
+use crate::Decline;
 
 // A run of positions in a list of keys: its first, and the one after its last.
-#[derive(Clone, Copy)]
+#[derive(Clone, Copy, PartialEq, Eq)]
 pub struct Run {
     pub start: usize,
     pub end: usize,
 }
 
-// The runs of a member, or the number that declines the call.
-#[derive(Clone, Copy)]
+// The runs of a member.
+#[derive(Clone, Copy, PartialEq, Eq)]
 pub enum Runs {
     // of any member but the lowest
     One(Run),
     // of the lowest member: the keys above the last member, then those at or below the lowest
     Two(Run, Run),
-    Declined(u32),
 }
 
 // The answer in numbers, as it crosses to C: number 0 or the refusal, how many runs, their starts and their ends; unused ones 0.
@@ -30,27 +32,31 @@ pub struct RunsAnswer {
 }
 
 // The answer in numbers.
-pub fn numbers(a: Runs) -> RunsAnswer
-    ensures { result ≡ packed (answer_of a) }
+pub fn numbers<E: Decline>(answer: Result<Runs, E>) -> RunsAnswer
+    ensures { result ≡ packed (answered values_of E.refused_by answer) }
 {
-    match a {
-        Runs::One(u) => RunsAnswer {
+    match answer {
+        Ok(Runs::One(u)) => RunsAnswer {
             number: 0,
             runs: 1,
             start: [u.start, 0],
             end: [u.end, 0],
         },
-        Runs::Two(u, v) => RunsAnswer {
+        Ok(Runs::Two(u, v)) => RunsAnswer {
             number: 0,
             runs: 2,
             start: [u.start, v.start],
             end: [u.end, v.end],
         },
-        Runs::Declined(k) => RunsAnswer {
-            number: k,
-            runs: 0,
-            start: [0, 0],
-            end: [0, 0],
-        },
+        Err(refusal) => {
+            let a = refusal.numbers();
+            let vs = a.values;
+            RunsAnswer {
+                number: a.number,
+                runs: a.count / 2,
+                start: [vs[0] as usize, vs[2] as usize],
+                end: [vs[1] as usize, vs[3] as usize],
+            }
+        }
     }
 }

@@ -1,31 +1,23 @@
 // What settle answers, with windows too.
-ghost use Rattle.answers.specs.Packed.{Says};
-ghost use Rattle.answers.specs.Settled.{answer_of};
+ghost use Rattle.answers.specs.Settled.{values_of, values_one_to_one};
 
-use crate::Answer;
+use crate::report::Verdict;
+use crate::{Answer, Reply};
 
-// The rounds run, the verdict and the entries passed over, or the number that declines the call.
-#[derive(Clone, Copy)]
-pub enum Settled {
-    // rounds run, the verdict afterwards, and the entries that all members of the table passed over as it began
-    Ran(u32, u32, u32),
-    Declined(u32),
+// The rounds run, the verdict afterwards, and the entries that all members of the table passed over as it began.
+#[derive(Clone, Copy, PartialEq, Eq)]
+pub struct Settled {
+    pub rounds: u32,
+    pub verdict: Verdict,
+    pub passed: u32,
 }
 
-// The answer in numbers.
-pub fn numbers(a: Settled) -> Answer
-    ensures { Says result (answer_of a) }
-{
-    match a {
-        Settled::Ran(rounds, v, passed) => Answer {
-            number: 0,
-            values: [rounds, v, passed, 0],
-            count: 3,
-        },
-        Settled::Declined(k) => Answer {
-            number: k,
-            values: [0, 0, 0, 0],
-            count: 0,
-        },
+impl Reply for Settled {
+    ghost values_of = { values_of };
+
+    fn numbers(self) -> Answer {
+        crate::accepted(&[self.rounds, u32::from(self.verdict), self.passed])
     }
+
+    ghost one_to_one = { values_one_to_one };
 }

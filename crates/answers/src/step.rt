@@ -1,11 +1,10 @@
 // What a stabilize step answers.
-ghost use Rattle.answers.specs.Packed.{Says};
-ghost use Rattle.answers.specs.Step.{answer_of};
+ghost use Rattle.answers.specs.Step.{values_of, values_one_to_one};
 
-use crate::Answer;
+use crate::{Answer, Reply};
 
-// What the step did, or the number that declines it.
-#[derive(Clone, Copy)]
+// What the step did.
+#[derive(Clone, Copy, PartialEq, Eq)]
 pub enum Step {
     // a dead head was dropped
     Again,
@@ -13,33 +12,18 @@ pub enum Step {
     Look(u32),
     // the shelf to be notified
     Done(u32),
-    Declined(u32),
 }
 
-// The answer in numbers.
-pub fn numbers(a: Step) -> Answer
-    ensures { Says result (answer_of a) }
-{
-    match a {
-        Step::Again => Answer {
-            number: 0,
-            values: [0, 0, 0, 0],
-            count: 1,
-        },
-        Step::Look(c) => Answer {
-            number: 0,
-            values: [1, c, 0, 0],
-            count: 2,
-        },
-        Step::Done(h) => Answer {
-            number: 0,
-            values: [2, h, 0, 0],
-            count: 2,
-        },
-        Step::Declined(k) => Answer {
-            number: k,
-            values: [0, 0, 0, 0],
-            count: 0,
-        },
+impl Reply for Step {
+    ghost values_of = { values_of };
+
+    fn numbers(self) -> Answer {
+        match self {
+            Step::Again => crate::accepted(&[0]),
+            Step::Look(c) => crate::accepted(&[1, c]),
+            Step::Done(h) => crate::accepted(&[2, h]),
+        }
     }
+
+    ghost one_to_one = { values_one_to_one };
 }

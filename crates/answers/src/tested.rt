@@ -1,38 +1,21 @@
 // What the principal test answers.
-ghost use Rattle.answers.specs.Packed.{Says};
-ghost use Rattle.answers.specs.Tested.{answer_of};
+ghost use Rattle.answers.specs.Tested.{values_of, values_one_to_one};
 
-use crate::Answer;
+use crate::{Answer, Reply};
 
-// Principal or not, with the pairs taken; or the number that declines the test.
-#[derive(Clone, Copy)]
-pub enum Tested {
-    // no pair skips the member: all were taken
-    Principal(u32),
-    // the last pair taken skips it
-    Skipped(u32),
-    Declined(u32),
+// Principal or not, with the pairs taken: all of them for a principal, else up to the first that skips the member.
+#[derive(Clone, Copy, PartialEq, Eq)]
+pub struct Tested {
+    pub principal: bool,
+    pub pairs: u32,
 }
 
-// The answer in numbers.
-pub fn numbers(a: Tested) -> Answer
-    ensures { Says result (answer_of a) }
-{
-    match a {
-        Tested::Principal(pairs) => Answer {
-            number: 0,
-            values: [1, pairs, 0, 0],
-            count: 2,
-        },
-        Tested::Skipped(pairs) => Answer {
-            number: 0,
-            values: [0, pairs, 0, 0],
-            count: 2,
-        },
-        Tested::Declined(k) => Answer {
-            number: k,
-            values: [0, 0, 0, 0],
-            count: 0,
-        },
+impl Reply for Tested {
+    ghost values_of = { values_of };
+
+    fn numbers(self) -> Answer {
+        crate::accepted(&[u32::from(self.principal), self.pairs])
     }
+
+    ghost one_to_one = { values_one_to_one };
 }

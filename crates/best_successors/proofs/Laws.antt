@@ -1,21 +1,25 @@
 -- Members by place: an identifier's place, the member there, its best successor, and one iteration of each loop. Assumes nothing.
-use Prim.Native.Nat.{ℕ, zero, suc, ◌+◌, ◌-◌, ◌≤◌, ◌<◌}
+use Prim.Native.Nat.{ℕ, zero, suc, ◌+◌, ◌≤◌, ◌<◌}
 use mathlib.Core.Path.{◌≡◌, refl, sym, ap, ◌∙◌}
 use mathlib.Core.List.{List, [], ◌∷◌, map}
-use mathlib.Core.Bool.{Bool, true, false, ◌&&◌, ◌||◌, false≢true}
+use mathlib.Core.Bool.{Bool, true, false, not, ◌&&◌, ◌||◌, false≢true}
+use mathlib.Core.Logic.{◌⊎◌, inl, inr}
 use mathlib.Core.Option.{some, none}
 use native.Mathlib.Nat.{le_of_suc-le-suc}
 use native.Mathlib.Numerals.{add-one}
 use native.Mathlib.Omega.{arith}
 use borrow.Author.Tests.{eqb-true, eq-eqb, ne_eqb, lt-ltb, le-ltb}
 use lib.Dec.{ltb, eqb}
-use lib.ListN.{length, get_or, drop, set, length-drop, drop_of_length-le}
+use lib.ListN.{length, get_or, take, drop, set, drop_of_length-le}
 use lib.Seq.{drop-cons}
-use Rattle.std.specs.Prelude.{if◌then◌else◌}
+use Rattle.std.specs.Prelude.{Option, Some, None, if◌then◌else◌}
+use Rattle.std.specs.List.{list_any}
+use Rattle.std.specs.Option.{is_some, unwrap_or}
 use Rattle.model.specs.Lists.{every, any, sum, contains}
 use Rattle.model.specs.Table.{Member, header_size, members_in, ids}
 use Rattle.model.specs.Ring.{past, searched, live, nobody, named, has_live, first_live, best_successor, passed_by}
 use Rattle.laws.specs.Lists.{or-false, Rising, rising_true, above_in, above_rising, length_ids}
+use Rattle.laws.specs.Order.{less?}
 use Rattle.laws.specs.Places.{place_in}
 use Rattle.laws.specs.Searches.{first_next}
 use Rattle.laws.specs.Words.{members_length}
@@ -24,7 +28,7 @@ use Rattle.table.specs.Rank.{rank}
 use Rattle.table.proofs.Members.{ids_count}
 use Rattle.table.proofs.Place.{contains_rank}
 use Rattle.places.proofs.Arrays.{stored_one}
-use Rattle.best_successors.specs.Places.{place_of, first_place, next_place, BestPlaces}
+use Rattle.best_successors.specs.Places.{place_of, first_place, next_place, at_place, BestPlaces}
 
 -- Identifiers by place
 
@@ -78,25 +82,72 @@ first_none : (ms : List Member) (l : List ℕ) → any (live ms) l ≡ false →
 first_none ms [] h = (refl, refl)
 first_none ms (x ∷ l) h = let w = or-false (live ms x) (any (live ms) l) h in rw (first_next ms x l, w.0) (first_none ms l w.1)
 
--- the place j of a list's first entry settles the search, or it is passed over
-module _ (ms : List Member) (j : ℕ) where
-  first_entry : (p : List ℕ) → 0 < length p → j ≡ place_of (ids ms) (get_or p 0 0) → j < length ms → (j ≡ first_place ms p) × ((searched ms p).passed ≡ 0)
-  first_entry [] h e l = absurd (omega arith)
-  first_entry (x ∷ p) h e l = go (live ms x) refl
+-- the list's first entry settles the search, or it is passed over
+module _ (ms : List Member) (x : ℕ) (p : List ℕ) where
+  first_entry : place_of (ids ms) x < length ms → (first_place ms (x ∷ p) ≡ place_of (ids ms) x) × ((searched ms (x ∷ p)).passed ≡ 0)
+  first_entry l = go (live ms x) refl
     where
-      go : (b : Bool) → live ms x ≡ b → (j ≡ (if b then place_of (ids ms) x else first_place ms p)) × ((if b then record { entry = some x; passed = 0 } else past (searched ms p)).passed ≡ 0)
-      go true t = (e, refl)
+      go : (b : Bool) → live ms x ≡ b → ((if b then place_of (ids ms) x else first_place ms p) ≡ place_of (ids ms) x)
+          × ((if b then record { entry = some x; passed = 0 } else past (searched ms p)).passed ≡ 0)
+      go true t = (refl, refl)
       go false t = absurd (omega (arith, place_none (ids ms) x t, length_ids ms))
 
-  later_entry : (p : List ℕ) → 0 < length p → j ≡ place_of (ids ms) (get_or p 0 0) → length ms ≤ j
-      → (first_place ms (drop 1 p) ≡ first_place ms p) × (suc (searched ms (drop 1 p)).passed ≡ (searched ms p).passed)
-  later_entry [] h e l = absurd (omega arith)
-  later_entry (x ∷ p) h e l = go (live ms x) refl
+  later_entry : length ms ≤ place_of (ids ms) x → (first_place ms (x ∷ p) ≡ first_place ms p) × ((searched ms (x ∷ p)).passed ≡ suc (searched ms p).passed)
+  later_entry l = go (live ms x) refl
     where
-      go : (b : Bool) → live ms x ≡ b → (first_place ms p ≡ (if b then place_of (ids ms) x else first_place ms p))
-          × (suc (searched ms p).passed ≡ (if b then record { entry = some x; passed = 0 } else past (searched ms p)).passed)
+      go : (b : Bool) → live ms x ≡ b → ((if b then place_of (ids ms) x else first_place ms p) ≡ first_place ms p)
+          × ((if b then record { entry = some x; passed = 0 } else past (searched ms p)).passed ≡ suc (searched ms p).passed)
       go true t = absurd (omega (arith, (place_found (ids ms) x t).0, length_ids ms))
       go false t = (refl, refl)
+
+-- A place where the count stands for none, and its option
+
+module _ {n p : ℕ} where
+  pub at_some : p < n → at_place n p ≡ Some p
+  at_some h = rw (lt-ltb p n h)
+
+  pub at_none : n ≤ p → at_place n p ≡ None
+  at_none h = rw (le-ltb p n h)
+
+  pub some_at : {k : ℕ} → Some k ≡ at_place n p → (k ≡ p) × (p < n)
+  some_at {k} e = go (less? p n)
+    where
+      go : (p < n) ⊎ (n ≤ p) → (k ≡ p) × (p < n)
+      go (inl l) = let q = e ∙ at_some l in (cc, l)
+      go (inr l) = let q = e ∙ at_none l in absurd (cc)
+
+  pub none_at : None ≡ at_place n p → n ≤ p
+  none_at e = go (less? p n)
+    where
+      go : (p < n) ⊎ (n ≤ p) → n ≤ p
+      go (inl l) = let q = e ∙ at_some l in absurd (cc)
+      go (inr l) = l
+
+  -- the count in the place of none
+  pub or_count : {o : Option ℕ} → o ≡ at_place n p → p ≤ n → unwrap_or o n ≡ p
+  or_count {o = o} e h = go (less? p n)
+    where
+      go : (p < n) ⊎ (n ≤ p) → unwrap_or o n ≡ p
+      go (inl l) = rw (e ∙ at_some l)
+      go (inr l) = rw (e ∙ at_none l) (omega arith)
+
+-- `all_live`: a test of members that their places tell
+live_pairs : (h : Member → Bool) (n : ℕ) (l : List Member) (a : List ℕ) → length l ≤ length a → ((k : ℕ) → k < length l → h (get_or l k nobody) ≡ not (eqb (get_or a k 0) n))
+    → not (list_any (λ y. eqb y n) (take (length l) a)) ≡ every h l
+live_pairs h n [] a le e = refl
+live_pairs h n (m ∷ l) [] le e = absurd (omega arith)
+live_pairs h n (m ∷ l) (y ∷ a) le e = rw (e 0 (omega arith), ← live_pairs h n l a (omega arith) (λ k b. e (suc k) (omega arith))) (neither (eqb y n))
+  where
+    neither : (b : Bool) → not (b || list_any (λ y. eqb y n) (take (length l) a)) ≡ (not b && not (list_any (λ y. eqb y n) (take (length l) a)))
+    neither true = refl
+    neither false = refl
+
+below_most : {j n : ℕ} → j ≤ n → ltb j n ≡ not (eqb j n)
+below_most {j} {n} h = go (less? j n)
+  where
+    go : (j < n) ⊎ (n ≤ j) → ltb j n ≡ not (eqb j n)
+    go (inl l) = rw (lt-ltb j n l, ne_eqb j n (λ e. omega arith))
+    go (inr l) = rw (le-ltb j n l, eq-eqb j n (omega arith))
 
 -- In a whole table
 
@@ -126,27 +177,41 @@ module _ (ws : List ℕ) where
         let z : contains (ids ms) x ≡ false = contains_rank (ids ms) x f.rises ∙ rw (ids_count ws, ← e) h in
         sym (place_none (ids ms) x z ∙ ids_count ws)
 
-  -- `first_live`: the search of p is what is left of the search of l
-  abbrev pub Left : List ℕ → List ℕ → Type 0
-  Left l p = (length p ≤ length l) × (first_place ms p ≡ first_place ms l) × ((length l - length p) + (searched ms p).passed ≡ (searched ms l).passed)
+  -- `first_live`: the search of the entries from i on is what is left of the search of l
+  abbrev pub Left : List ℕ → ℕ → Type 0
+  Left l i = (first_place ms (drop i l) ≡ first_place ms l) × (i + (searched ms (drop i l)).passed ≡ (searched ms l).passed)
 
-  module _ (l p : List ℕ) (u : Left l p) (j : ℕ) (h : 0 < length p) (e : j ≡ place_of (ids ms) (get_or p 0 0)) where
-    pub first_here : j < n → (j ≡ first_place ms l) × (length l - length p ≡ (searched ms l).passed)
-    first_here i = let w = first_entry ms j p h e (omega (arith, member_count)) in (w.0 ∙ u.1, omega (arith, w.1, u.2))
+  module _ (l : List ℕ) (i : ℕ) (u : Left l i) where
+    rest : i < length l → drop i l ≡ get_or l i 0 ∷ drop (i + 1) l
+    rest h = rw (add-one, drop-cons l i 0 h)
 
-    pub first_on : n ≤ j → Left l (drop 1 p)
-    first_on i =
-        let w = later_entry ms j p h e (omega (arith, member_count)) in
-        let d : length (drop 1 p) ≡ length p - 1 = length-drop 1 p in
-        (omega (arith, d, u.0), w.0 ∙ u.1, omega (arith, d, w.1, u.0, u.2, h))
+    module _ (h : i < length l) where
+      pub first_here : {o : Option ℕ} → o ≡ at_place n (place_of (ids ms) (get_or l i 0)) → is_some o ≡ true → (o ≡ at_place n (first_place ms l)) × (i ≡ (searched ms l).passed)
+      first_here {o = None} e t = absurd (false≢true t)
+      first_here {o = Some k} e t =
+          let w = first_entry ms (get_or l i 0) (drop (i + 1) l) (omega (arith, (some_at e).1, member_count)) in
+          let v = rw (rest h) at u in
+          (e ∙ ap (at_place n) (sym w.0 ∙ v.0), omega (arith, w.1, v.1))
+
+      pub first_on : {o : Option ℕ} → o ≡ at_place n (place_of (ids ms) (get_or l i 0)) → is_some o ≡ false → Left l (i + 1)
+      first_on {o = Some k} e t = absurd (false≢true (sym t))
+      first_on {o = None} e t =
+          let w = later_entry ms (get_or l i 0) (drop (i + 1) l) (omega (arith, none_at e, member_count)) in
+          let v = rw (rest h) at u in
+          (sym w.0 ∙ v.0, omega (arith, w.1, v.1))
+
+    pub first_end : length l ≤ i → i ≤ length l → (None ≡ at_place n (first_place ms l)) × (length l ≡ (searched ms l).passed)
+    first_end g h =
+        let v = rw (drop_of_length-le l {i = i} g) at u in
+        (sym (at_none (omega (arith, v.0, member_count))), omega (arith, v.1))
 
   -- `best_of`: the first entry stands at the place guessed
-  pub first_guessed : FormedWords ws → (p : List ℕ) (j : ℕ) → 0 < length p → j < n → id_at j ≡ get_or p 0 0 → (j ≡ first_place ms p) × (0 ≡ (searched ms p).passed)
-  first_guessed f p j h l e = let w = first_entry ms j p h (placed f (get_or p 0 0) j l e) (omega (arith, member_count)) in (w.0, sym w.1)
-
-  pub first_end : (l p : List ℕ) → Left l p → length p ≤ 0 → (n ≡ first_place ms l) × (length l ≡ (searched ms l).passed)
-  first_end l [] u h = (sym member_count ∙ u.1, omega (arith, u.2))
-  first_end l (x ∷ p) u h = absurd (omega arith)
+  pub first_guessed : FormedWords ws → (p : List ℕ) (j : ℕ) → 0 < length p → j < n → id_at j ≡ get_or p 0 0 → (Some j ≡ at_place n (first_place ms p)) × (0 ≡ (searched ms p).passed)
+  first_guessed f [] j h l e = absurd (omega arith)
+  first_guessed f (x ∷ p) j h l e =
+      let q = placed f x j l e in
+      let w = first_entry ms x p (omega (arith, q, member_count)) in
+      (sym (at_some l) ∙ ap (at_place n) (q ∙ sym w.0), sym w.1)
 
   -- `fill_best`: with the entry at place k stored, one place more is right
   abbrev pub BestTo : List ℕ → ℕ → Type 0
@@ -202,13 +267,7 @@ module _ (ws : List ℕ) where
         go true t = omega (arith, (first_found ms (get_or ms k nobody).successors t).0, member_count)
         go false t = omega (arith, (first_none ms (get_or ms k nobody).successors t).0, member_count)
 
-    -- `all_live`: one member settles the test of all, or leaves the others
-    pub all_on : j < n → every (has_live ms) (drop (k + 1) ms) ≡ every (has_live ms) (drop k ms)
-    all_on l = rw (add-one, drop-cons ms k nobody (omega (arith, member_count)), has_live_law, lt-ltb j n l)
-
-    pub all_stop : n ≤ j → false ≡ every (has_live ms) (drop k ms)
-    all_stop l = rw (drop-cons ms k nobody (omega (arith, member_count)), has_live_law, le-ltb j n l)
-
-  -- `all_live`: after the last member nothing is left to test
-  pub all_end : (k : ℕ) → n ≤ k → true ≡ every (has_live ms) (drop k ms)
-  all_end k h = rw (drop_of_length-le ms {i = k} (omega (arith, member_count)))
+  -- `all_live`: no best successor is missing
+  pub live_all : (a : List ℕ) → n ≤ length a → BestPlaces ws a → not (list_any (λ y. eqb y n) (take n a)) ≡ every (has_live ms) ms
+  live_all a s b = ap (λ (k : ℕ). not (list_any (λ y. eqb y n) (take k a))) (sym member_count) ∙ live_pairs (has_live ms) n ms a (omega (arith, member_count))
+      (λ k h. has_live_law k (get_or a k 0) (omega (arith, member_count)) (b.at k h) ∙ below_most (best_most k (get_or a k 0) (omega (arith, member_count)) (b.at k h)))

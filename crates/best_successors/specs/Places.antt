@@ -1,5 +1,5 @@
 -- Members by their place in the table instead of by identifier: what the walks round the ring go by.
-use Rattle.std.specs.Prelude.{ℕ, suc, ◌<◌, ◌≡◌, List, [], ◌∷◌, eqb, length, get_or, if◌then◌else◌}
+use Rattle.std.specs.Prelude.{ℕ, suc, ◌<◌, ◌≡◌, List, [], ◌∷◌, Option, Some, None, ltb, eqb, length, get_or, if◌then◌else◌}
 use Rattle.model.specs.Table.{Member, members_in, ids}
 use Rattle.model.specs.Ring.{live, nobody}
 
@@ -16,6 +16,10 @@ first_place ms (x ∷ l) = if live ms x then place_of (ids ms) x else first_plac
 -- the place of the best successor of the member at place k, or the member count where it has none: where a move leads from place k
 abbrev pub next_place : List Member → ℕ → ℕ
 next_place ms k = first_place ms (get_or ms k nobody).successors
+
+-- a place p where the count n stands for none: that place, or `None`
+abbrev pub at_place : ℕ → ℕ → Option ℕ
+at_place n p = if ltb p n then Some p else None
 
 -- an array has at each member's place the place of its best successor
 pub record BestPlaces (ws : List ℕ) (a : List ℕ) : Type 0 where

@@ -6,13 +6,13 @@ ghost use Rattle.model.specs.Lists.{every};
 ghost use Rattle.model.specs.Table.{members_in, ids};
 ghost use Rattle.model.specs.Ring.{nobody, has_live, searched, passed_by, passed_by_all};
 ghost use Rattle.table.specs.FormedWords.{FormedWords};
-ghost use Rattle.best_successors.specs.Places.{place_of, first_place, next_place, BestPlaces};
+ghost use Rattle.best_successors.specs.Places.{place_of, first_place, next_place, at_place, BestPlaces};
 
 // What the search of a list for its first live entry tells.
 #[derive(Clone, Copy)]
 pub struct Best {
-    // the place of that entry, or the member count where none is live
-    pub place: usize,
+    // the place of that entry, where one is live
+    pub place: Option<usize>,
     // how many entries were passed over
     pub passed: usize,
 }
@@ -28,44 +28,36 @@ pub fn id_at(t: &[u32], k: usize) -> u32
     t[at]
 }
 
-// The place of the member x, or the member count where x is none; looked for first at the place guessed.
-pub fn place(t: &[u32], guess: usize, x: u32) -> usize
+// The place of the member x, where x is one; looked for first at the place guessed.
+pub fn place(t: &[u32], guess: usize, x: u32) -> Option<usize>
     requires formed_words { FormedWords t.now }
     requires guess_bound { guess < get_or t.now 1 0 }
-    ensures { (result ≡ place_of (ids (members_in t.now)) x) × (result ≤ get_or t.now 1 0) }
+    ensures { result ≡ at_place (get_or t.now 1 0) (place_of (ids (members_in t.now)) x) }
 {
     if id_at(t, guess) == x {
-        return guess;
+        return Some(guess);
     }
-    let n = t[words::COUNT] as usize;
     let k = table::rank(t, x);
     if table::stands_at(t, k, x) {
-        return k;
+        return Some(k);
     }
-    n
+    None
 }
 
 // The search of a list for its first live entry; each is looked for first at the place guessed.
 pub fn first_live(t: &[u32], guess: usize, l: &[u32]) -> Best
     requires formed_words { FormedWords t.now }
     requires guess_bound { guess < get_or t.now 1 0 }
-    ensures { (result.place ≡ first_place (members_in t.now) l.now) × (result.place ≤ get_or t.now 1 0)
-        × (result.passed ≡ (searched (members_in t.now) l.now).passed) }
+    ensures { (result.place ≡ at_place (get_or t.now 1 0) (first_place (members_in t.now) l.now)) × (result.passed ≡ (searched (members_in t.now) l.now).passed) }
 {
-    let n = t[words::COUNT] as usize;
-    let mut p = l;
-    while 0 < p.len() {
-        let k = place(t, guess, p[0]);
-        if k < n {
-            return Best {
-                place: k,
-                passed: l.len() - p.len(),
-            };
+    for (passed, &x) in l.iter().enumerate() {
+        let place = place(t, guess, x);
+        if place.is_some() {
+            return Best { place, passed };
         }
-        p = &p[1..];
     }
     Best {
-        place: n,
+        place: None,
         passed: l.len(),
     }
 }
@@ -85,7 +77,7 @@ fn place_after(n: usize, k: usize) -> usize
 pub fn best_of(t: &[u32], k: usize) -> Best
     requires formed_words { FormedWords t.now }
     requires k_bound { k < get_or t.now 1 0 }
-    ensures { (result.place ≡ next_place (members_in t.now) k) × (result.place ≤ get_or t.now 1 0)
+    ensures { (result.place ≡ at_place (get_or t.now 1 0) (next_place (members_in t.now) k))
         × (result.passed ≡ passed_by (members_in t.now) (get_or (members_in t.now) k nobody)) × (result.passed ≤ get_or t.now 0 0) }
 {
     let r = t[words::R] as usize;
@@ -96,7 +88,7 @@ pub fn best_of(t: &[u32], k: usize) -> Best
     let next = place_after(n, k);
     if id_at(t, next) == l[0] {
         return Best {
-            place: next,
+            place: Some(next),
             passed: 0,
         };
     }
@@ -111,12 +103,11 @@ pub fn fill_best(t: &[u32], best: &mut [u16; 256]) -> u32
 {
     let n = t[words::COUNT] as usize;
     let mut passed: u32 = 0;
-    let mut k = 0;
-    while k < n {
+    for k in 0..n {
         let s = best_of(t, k);
-        best[k] = s.place as u16;
+        // None is kept as n: the memory is fixed, and `ring` and `moves` follow n as a place that stays.
+        best[k] = s.place.unwrap_or(n) as u16;
         passed += s.passed as u32;
-        k += 1;
     }
     passed
 }
@@ -138,13 +129,5 @@ pub fn all_live(t: &[u32], best: &[u16; 256]) -> bool
     ensures { result ≡ every (has_live (members_in t.now)) (members_in t.now) }
 {
     let n = t[words::COUNT] as usize;
-    let none = n as u16;
-    let mut k = 0;
-    while k < n {
-        if best[k] == none {
-            return false;
-        }
-        k += 1;
-    }
-    true
+    !best[..n].contains(&(n as u16))
 }

@@ -28,13 +28,13 @@ pub fn apply(t: &mut [u32], c: Call) -> Answer
     ensures { Says result (call_answer t.old (call_of c)) × (t.new ≡ call_words t.old (call_of c)) }
 {
     match c {
-        Call::Join(j, p) => answers::member_count::numbers(join::join(t, j, p)),
-        Call::Leave(n) => answers::member_count::numbers(depart::leave(t, n)),
-        Call::Fail(n) => answers::member_count::numbers(depart::fail(t, n)),
-        Call::Stabilize(n) => answers::step::numbers(stabilize::stabilize(t, n)),
-        Call::Rectify(n, q) => answers::notice::numbers(rectify::rectify(t, n, q)),
-        Call::Lookup(n, k) => answers::found::numbers(lookup::lookup(t, n, k)),
-        Call::Audit => answers::report::numbers(audit::audit(t)),
+        Call::Join(j, p) => answers::numbers(join::join(t, j, p)),
+        Call::Leave(n) => answers::numbers(depart::leave(t, n)),
+        Call::Fail(n) => answers::numbers(depart::fail(t, n)),
+        Call::Stabilize(n) => answers::numbers(stabilize::stabilize(t, n)),
+        Call::Rectify(n, q) => answers::numbers(rectify::rectify(t, n, q)),
+        Call::Lookup(n, k) => answers::numbers(lookup::lookup(t, n, k)),
+        Call::Audit => answers::numbers(audit::audit(t)),
     }
 }
 
@@ -47,11 +47,8 @@ fn numbers_fit(c: Call)
 pub fn apply_all(t: &mut [u32], cs: &[Call])
     ensures { (t.new ≡ run (map call_of cs.now) t.old) × (MayStart cs.now t.old → Holds t.new) }
 {
-    let mut i: usize = 0;
-    while i < cs.len() {
-        let c = cs[i];
+    for &c in cs {
         numbers_fit(c);
         apply(t, c);
-        i += 1;
     }
 }

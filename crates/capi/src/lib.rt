@@ -18,7 +18,7 @@ use finding::Finding;
 pub extern "C" fn ring_join(table: &mut [u32], j: u32, p: u32) -> Answer
     ensures { (result ≡ packed (join_answer table.old j p)) × (table.new ≡ join_words table.old j p) }
 {
-    answers::member_count::numbers(join::join(table, j, p))
+    answers::numbers(join::join(table, j, p))
 }
 
 // One stabilize step of n.
@@ -26,7 +26,7 @@ pub extern "C" fn ring_join(table: &mut [u32], j: u32, p: u32) -> Answer
 pub extern "C" fn ring_stabilize(table: &mut [u32], n: u32) -> Answer
     ensures { (result ≡ packed (stabilize_answer table.old n)) × (table.new ≡ stabilize_words table.old n) }
 {
-    answers::step::numbers(stabilize::stabilize(table, n))
+    answers::numbers(stabilize::stabilize(table, n))
 }
 
 // n rectifies with a notice from q.
@@ -34,7 +34,7 @@ pub extern "C" fn ring_stabilize(table: &mut [u32], n: u32) -> Answer
 pub extern "C" fn ring_rectify(table: &mut [u32], n: u32, q: u32) -> Answer
     ensures { (result ≡ packed (rectify_answer table.old n q)) × (table.new ≡ rectify_words table.old n q) }
 {
-    answers::notice::numbers(rectify::rectify(table, n, q))
+    answers::numbers(rectify::rectify(table, n, q))
 }
 
 // Loss of n.
@@ -42,7 +42,7 @@ pub extern "C" fn ring_rectify(table: &mut [u32], n: u32, q: u32) -> Answer
 pub extern "C" fn ring_fail(table: &mut [u32], n: u32) -> Answer
     ensures { (result ≡ packed (fail_answer table.old n)) × (table.new ≡ fail_words table.old n) }
 {
-    answers::member_count::numbers(depart::fail(table, n))
+    answers::numbers(depart::fail(table, n))
 }
 
 // Withdrawal of n.
@@ -50,7 +50,7 @@ pub extern "C" fn ring_fail(table: &mut [u32], n: u32) -> Answer
 pub extern "C" fn ring_leave(table: &mut [u32], n: u32) -> Answer
     ensures { (result ≡ packed (leave_answer table.old n)) × (table.new ≡ leave_words table.old n) }
 {
-    answers::member_count::numbers(depart::leave(table, n))
+    answers::numbers(depart::leave(table, n))
 }
 
 // Find key k from the member n.
@@ -58,7 +58,7 @@ pub extern "C" fn ring_leave(table: &mut [u32], n: u32) -> Answer
 pub extern "C" fn ring_lookup(table: &[u32], n: u32, k: u32) -> Answer
     ensures { result ≡ packed (lookup_answer table.now n k) }
 {
-    answers::found::numbers(lookup::lookup(table, n, k))
+    answers::numbers(lookup::lookup(table, n, k))
 }
 
 // Audit.
@@ -66,7 +66,7 @@ pub extern "C" fn ring_lookup(table: &[u32], n: u32, k: u32) -> Answer
 pub extern "C" fn ring_audit(table: &[u32]) -> Answer
     ensures { result ≡ packed (audit_answer table.now) }
 {
-    answers::report::numbers(audit::audit(table))
+    answers::numbers(audit::audit(table))
 }
 
 // The new table of r and rising identifiers.
@@ -74,7 +74,7 @@ pub extern "C" fn ring_audit(table: &[u32]) -> Answer
 pub extern "C" fn ring_new(table: &mut [u32], r: u32, ids: &[u32]) -> Answer
     ensures { (result ≡ packed (new_answer table.old r ids.now)) × (table.new ≡ new_words table.old r ids.now) }
 {
-    answers::member_count::numbers(new_table::new(table, r, ids))
+    answers::numbers(new_table::new(table, r, ids))
 }
 
 // Are two tables alike?
@@ -82,7 +82,7 @@ pub extern "C" fn ring_new(table: &mut [u32], r: u32, ids: &[u32]) -> Answer
 pub extern "C" fn ring_alike(a: &[u32], b: &[u32]) -> Answer
     ensures { result ≡ packed (alike_answer a.now b.now) }
 {
-    answers::yes_no::numbers(alike::alike(a, b))
+    answers::numbers(alike::alike(a, b))
 }
 
 // Which of two replies' lists to take over: 1 for c's and 0 for h's, and the length of its part.
@@ -96,20 +96,16 @@ pub extern "C" fn ring_take_over<'a>(
 ) -> Answer
     ensures { result ≡ packed (take_over_answer own h c hs.now cs.now) }
 {
-    let part = take_over::take_over(own, h, c, hs, cs);
-    let n = part.len();
-    let low = (n % 4294967296) as u32;
-    let high = (n / 4294967296) as u32;
-    if take_over::chooses_candidate(own, h, c, cs) {
-        return Answer {
-            number: 0,
-            values: [1, low, high, 0],
-            count: 3,
-        };
-    }
+    let chosen = take_over::chooses_candidate(own, h, c, cs);
+    let n = take_over::take_over(own, h, c, hs, cs).len();
     Answer {
         number: 0,
-        values: [0, low, high, 0],
+        values: [
+            u32::from(chosen),
+            (n % 4294967296) as u32,
+            (n / 4294967296) as u32,
+            0,
+        ],
         count: 3,
     }
 }
@@ -119,7 +115,7 @@ pub extern "C" fn ring_take_over<'a>(
 pub extern "C" fn ring_image_write(table: &[u32], image: &mut [u8]) -> Answer
     ensures { (result ≡ packed (write_answer table.now image.old)) × (image.new ≡ write_bytes table.now image.old) }
 {
-    answers::byte_count::numbers(image::write(table, image))
+    answers::numbers(image::write(table, image))
 }
 
 // Reads a whole image into a slice.
@@ -127,7 +123,7 @@ pub extern "C" fn ring_image_write(table: &[u32], image: &mut [u8]) -> Answer
 pub extern "C" fn ring_image_read(table: &mut [u32], image: &[u8]) -> Answer
     ensures { (result ≡ packed (read_answer table.old image.now)) × (table.new ≡ read_words table.old image.now) }
 {
-    answers::member_count::numbers(image::read(table, image))
+    answers::numbers(image::read(table, image))
 }
 
 // The field at a position of an image.
@@ -135,7 +131,7 @@ pub extern "C" fn ring_image_read(table: &mut [u32], image: &[u8]) -> Answer
 pub extern "C" fn ring_image_field(image: &[u8], position: usize) -> Answer
     ensures { result ≡ packed (field_at image.now position) }
 {
-    answers::field::numbers(due::field_at(image, position))
+    answers::numbers(due::field_at(image, position))
 }
 
 // The audit, with one finding a member.
@@ -143,7 +139,7 @@ pub extern "C" fn ring_image_field(image: &[u8], position: usize) -> Answer
 pub extern "C" fn ring_findings(table: &[u32], out: &mut [Finding]) -> Answer
     ensures { (result ≡ packed (findings_answer table.now (views out.old))) × (views out.new ≡ findings_after table.now (views out.old)) }
 {
-    answers::report::numbers(findings::findings(table, out))
+    answers::numbers(findings::findings(table, out))
 }
 
 // The runs of the keys that the member n holds.
@@ -159,7 +155,7 @@ pub extern "C" fn ring_held(table: &[u32], n: u32, keys: &[u32]) -> RunsAnswer
 pub extern "C" fn ring_principal(table: &[u32], n: u32) -> Answer
     ensures { result ≡ packed (principal_answer table.now n) }
 {
-    answers::tested::numbers(principal_test::principal_test(table, n))
+    answers::numbers(principal_test::principal_test(table, n))
 }
 
 // One round: the turn of each member.
@@ -167,7 +163,7 @@ pub extern "C" fn ring_principal(table: &[u32], n: u32) -> Answer
 pub extern "C" fn ring_round(table: &mut [u32]) -> Answer
     ensures { (result ≡ packed (round_answer table.old)) × (table.new ≡ round_words table.old) }
 {
-    answers::round_verdict::numbers(settle::round(table))
+    answers::numbers(settle::round(table))
 }
 
 // Rounds until the table is ideal, at most so many.
@@ -175,7 +171,7 @@ pub extern "C" fn ring_round(table: &mut [u32]) -> Answer
 pub extern "C" fn ring_settle(table: &mut [u32], limit: u32) -> Answer
     ensures { (result ≡ packed (settle_answer table.old limit)) × (table.new ≡ settle_words table.old limit) }
 {
-    answers::settled::numbers(settle::settle(table, limit))
+    answers::numbers(settle::settle(table, limit))
 }
 
 // Is a minute of the week open?
@@ -183,7 +179,7 @@ pub extern "C" fn ring_settle(table: &mut [u32], limit: u32) -> Answer
 pub extern "C" fn ring_is_open(windows: &[u32], minute: u32) -> Answer
     ensures { result ≡ packed (is_open_answer windows.now minute) }
 {
-    answers::yes_no::numbers(hours::is_open(windows, minute))
+    answers::numbers(hours::is_open(windows, minute))
 }
 
 // The first open minute at or after a minute of the week, going round.
@@ -191,7 +187,7 @@ pub extern "C" fn ring_is_open(windows: &[u32], minute: u32) -> Answer
 pub extern "C" fn ring_next_open(windows: &[u32], minute: u32) -> Answer
     ensures { result ≡ packed (next_open_answer windows.now minute) }
 {
-    answers::opening::numbers(hours::next_open(windows, minute))
+    answers::numbers(hours::next_open(windows, minute))
 }
 
 // Rounds at the open minutes of a list until the table is ideal.
@@ -199,5 +195,5 @@ pub extern "C" fn ring_next_open(windows: &[u32], minute: u32) -> Answer
 pub extern "C" fn ring_settle_at(table: &mut [u32], windows: &[u32], minutes: &[u32]) -> Answer
     ensures { (result ≡ packed (settle_at_answer table.old windows.now minutes.now)) × (table.new ≡ settle_at_words table.old windows.now minutes.now) }
 {
-    answers::settled::numbers(settle::settle_at(table, windows, minutes))
+    answers::numbers(settle::settle_at(table, windows, minutes))
 }

@@ -11,12 +11,15 @@ use Rattle.model.specs.Ring.{live}
 use Rattle.model.specs.Answer.{◌when◌, first_of}
 use Rattle.model.specs.Steps.{is_named, without}
 use Rattle.model.specs.Refusals.{cuts_off, too_few_principals, member_refusal, leave_refusal}
-use Rattle.model.specs.Calls.{written_freed}
+use Rattle.model.specs.Calls.{written_freed, leave_answer, leave_words}
 use Rattle.laws.specs.Lists.{live_in}
 use Rattle.laws.specs.Accepted.{causes_declined}
 use Rattle.laws.specs.Words.{OwnHeader, members_length, words_read, words_written, written_freed_table}
 use Rattle.laws.specs.Tables.{well_formed_facts, facts_well_formed, holds_formed, formed_lists, written_freed_formed}
 use Rattle.laws.specs.Removed.{staying_formed, without_length, without_size}
+use Rattle.answers.specs.Refusal.{number_of, refused, refused_declines}
+use Rattle.answers.specs.declared.refusal.Refusal.{Refusal}
+use Rattle.answers.proofs.Judged.{declined_by, kept_by}
 use Rattle.words.proofs.Records.{most_words}
 use Rattle.table.specs.FormedWords.{FormedWords}
 use Rattle.table.proofs.WellFormed.{formed_words}
@@ -66,9 +69,16 @@ removed_facts ws n f l =
 
 -- The causes of a withdrawal
 
-pub member_refused : (ws : List ℕ) (n : ℕ) → (member_refusal ws n ≡ 0 → ⊥) → member_refusal ws n ≡ leave_refusal ws n
+pub member_refused : (ws : List ℕ) (n : ℕ) (e : Refusal) → member_refusal ws n ≡ number_of e → leave_refusal ws n ≡ number_of e
 unfolding leave_refusal
-member_refused ws n h = causes_declined ws n ((6 when cuts_off (without n (table_of ws))) ∷ (7 when too_few_principals (without n (table_of ws))) ∷ []) h
+member_refused ws n e h =
+    let z : member_refusal ws n ≡ 0 → ⊥ = λ z. omega (arith, refused_declines e, h, z) in
+    sym (causes_declined ws n ((6 when cuts_off (without n (table_of ws))) ∷ (7 when too_few_principals (without n (table_of ws))) ∷ []) z) ∙ h
+
+-- a refusal is the answer, and the words are as they were
+pub refused_leave : (ws : List ℕ) (n : ℕ) (e : Refusal) → leave_refusal ws n ≡ number_of e → (refused e ≡ leave_answer ws n) × (ws ≡ leave_words ws n)
+unfolding leave_answer leave_words
+refused_leave ws n e h = (declined_by e h _, kept_by e h _ _)
 
 -- the causes that are left are judged on a slice that holds the table as it would be afterwards
 pub left_causes : (ws a : List ℕ) (n : ℕ) → FormedWords ws → live (members_in ws) n ≡ true → table_of a ≡ without n (table_of ws)

@@ -39,6 +39,13 @@ pub record Behind (bs : List ℕ) (at all w : ℕ) : Type 0 where
   pub one : w ≡ field_size (image_r bs)
   pub together : all ≡ image_count bs * field_size (image_r bs)
 
+-- that r, n and the first field's tests give this
+pub known : {bs : List ℕ} {at r n l : ℕ} → (at ≡ 0 → ⊥) → first_size ≤ at → first_size ≤ length bs → head_is bs 1 header_length ≡ true → r ≡ image_r bs → n ≡ image_count bs → l ≡ member_length r
+    → Behind bs at (n * (field_head + l)) (field_head + l)
+known {bs} {at} {r} {n} {l} a p q h e f g =
+    let w : field_head + l ≡ field_size (image_r bs) = rw (g, e) in
+    record { some_way = a; past_first = p; whole = q; head = h; one = w; together = rw (w, f) }
+
 module _ (r n o : ℕ) where
   after_last : o ≡ n * field_size r → due_after r n o ≡ some (record { tag = 3; length = 0 })
   unfolding due_after

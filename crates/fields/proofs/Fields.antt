@@ -1,11 +1,11 @@
 -- An image's size, its first field, and one member's field: written in four pieces, and its record read in three. Assumes nothing.
-use Prim.Native.Nat.{ℕ, ◌+◌, ◌*◌, ◌-◌, ◌/◌, ◌%◌, ◌≤◌}
+use Prim.Native.Nat.{ℕ, ◌+◌, ◌*◌, ◌-◌, ◌%◌, ◌≤◌}
 use mathlib.Core.Path.{◌≡◌, refl, sym, ap, ◌∙◌}
 use mathlib.Core.List.{List, [], ◌∷◌, ◌++◌}
 use native.Mathlib.Nat.{mul-le-mul}
 use native.Mathlib.Omega.{arith}
 use lib.ListN.{length, get_or, take, drop, set, length-take, length-drop, length-append}
-use lib.Seq.{drop-drop, get_or-drop, take_all, sets, sets-eq}
+use lib.Seq.{drop-drop, get_or-drop, take_all}
 use Rattle.model.specs.Table.{record_size, member_of, record_of}
 use Rattle.model.specs.Image.{bytes_of, words4, field_head, header_length, member_length, member_field, numbers_at, field_member}
 use Rattle.laws.specs.Bytes.{field_size, contents_length, words4_length, words_said}
@@ -19,15 +19,15 @@ use Rattle.fields.specs.Fields.{first_size, header_bytes, pending_in}
 pub most_bytes : (n r b : ℕ) → n ≤ 256 → r ≤ 8 → b ≡ field_size r → (n * b ≡ n * field_size r) × (n * b ≤ 256 * field_size 8)
 most_bytes n r b hn hr e = let h : field_size r ≤ field_size 8 = omega arith in rw e (refl, mul-le-mul hn h)
 
--- `put_header`: head, three bytes, and the step count
-pub header_placed : (r n : ℕ) (out o1 last : List ℕ) → first_size ≤ length out → o1 ≡ placed 0 (1 ∷ bytes_of 2 header_length) out
-    → last ≡ placed (field_head + 3) (bytes_of 4 0) (sets o1 field_head (r % 256 ∷ n / 256 % 256 ∷ n % 256 ∷ [])) → last ≡ placed 0 (header_bytes r n) out
-header_placed r n out o1 last h e1 e2 =
+-- `put_header`: head, r, member count, and the step count
+pub header_placed : (r n : ℕ) (out o1 o2 last : List ℕ) → first_size ≤ length out → o1 ≡ placed 0 (1 ∷ bytes_of 2 header_length) out
+    → o2 ≡ placed (field_head + 1) (bytes_of 2 n) (set o1 field_head (r % 256)) → last ≡ placed (field_head + 3) (bytes_of 4 0) o2 → last ≡ placed 0 (header_bytes r n) out
+header_placed r n out o1 o2 last h e1 e2 e3 =
     let head : List ℕ = 1 ∷ bytes_of 2 header_length in
-    let three : List ℕ = r % 256 ∷ n / 256 % 256 ∷ n % 256 ∷ [] in
     let l1 : length o1 ≡ length out = ap length e1 ∙ placed_length 0 head out (omega arith) in
-    let f1 = placed_then 0 field_head head three out o1 (sets o1 field_head three) (omega arith) refl e1 (sets-eq three o1 field_head (omega arith)) in
-    placed_then 0 (field_head + 3) (head ++ three) (bytes_of 4 0) out (sets o1 field_head three) last (omega arith) refl f1 e2
+    let f1 = placed_then 0 field_head head (r % 256 ∷ []) out o1 (set o1 field_head (r % 256)) (omega arith) refl e1 (placed_one field_head (r % 256) o1 (omega arith)) in
+    let f2 = placed_then 0 (field_head + 1) (head ++ (r % 256 ∷ [])) (bytes_of 2 n) out (set o1 field_head (r % 256)) o2 (omega arith) refl f1 e2 in
+    placed_then 0 (field_head + 3) (head ++ (r % 256 ∷ []) ++ bytes_of 2 n) (bytes_of 4 0) out o2 last (omega arith) refl f2 e3
 
 field_bytes : (r : ℕ) (ws : List ℕ) → length ws ≡ record_size r → (2 ∷ bytes_of 2 (member_length r)) ++ words4 (take 2 ws) ++ (get_or ws 2 0 % 256 ∷ []) ++ words4 (drop 3 ws) ≡ member_field (member_of r ws)
 field_bytes r ws h =

@@ -73,11 +73,7 @@ pub fn head_is(bs: &[u8], tag: u8, len: usize) -> bool
     requires { field_head ≤ length bs.now }
     ensures { result ≡ head_is bs.now tag len }
 {
-    if bs[0] == tag {
-        let n = octets::number2(bs, 1);
-        return n == len;
-    }
-    false
+    bs[0] == tag && octets::number2(bs, 1) == len
 }
 
 // The head of a field: its tag and the length of its contents.
@@ -86,8 +82,7 @@ pub fn put_head(out: &mut [u8], at: usize, tag: u8, len: usize)
     ensures { out.new ≡ placed at (tag ∷ bytes_of 2 len) out.old }
 {
     out[at] = tag;
-    out[at + 1] = (len / 256 % 256) as u8;
-    out[at + 2] = (len % 256) as u8;
+    octets::put2(out, at + 1, len);
 }
 
 // The first field: r, member count, step count 0.
@@ -97,8 +92,7 @@ pub fn put_header(out: &mut [u8], r: usize, n: usize)
 {
     put_head(out, 0, FIRST, HEADER);
     out[R] = (r % 256) as u8;
-    out[COUNT] = (n / 256 % 256) as u8;
-    out[COUNT + 1] = (n % 256) as u8;
+    octets::put2(out, COUNT, n);
     octets::put4(out, STEPS, 0);
 }
 
@@ -107,7 +101,7 @@ pub fn image_r(image: &[u8]) -> usize
     requires { first_size ≤ length image.now }
     ensures { (result ≡ image_r image.now) × (result < 256) }
 {
-    image[R] as usize
+    usize::from(image[R])
 }
 
 // The member count that it says.
@@ -167,6 +161,6 @@ pub fn read_field(t: &mut [u32], at: usize, bs: &[u8], r: usize)
     ensures { t.new ≡ placed at (record_of (field_member r (drop field_head bs.now))) t.old }
 {
     octets::get_words(t, at, &bs[ID..], 2);
-    t[at + 2] = bs[PENDING] as u32;
+    t[at + 2] = u32::from(bs[PENDING]);
     octets::get_words(t, at + 3, &bs[CANDIDATE..], words::record_size(r) - 3);
 }

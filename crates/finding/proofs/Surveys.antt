@@ -1,28 +1,21 @@
--- Surveys: the ring members counted by their numbers, and the surveys of declined and of accepted calls.
+-- Surveys: the ring members counted by their numbers, and what declines a call.
 -- Assumes nothing.
 use Prim.Native.Nat.{ℕ, ◌≤◌, ◌<◌}
-use mathlib.Core.Path.{◌≡◌, sym, ap, ◌∙◌}
-use mathlib.Core.List.{List, []}
+use mathlib.Core.Path.{◌≡◌}
+use mathlib.Core.List.{List}
 use mathlib.Core.Bool.{true, false}
 use native.Mathlib.Omega.{arith}
 use borrow.Author.Tests.{lt-ltb, le-ltb}
 use lib.Dec.{eqb}
-use lib.ListN.{length, get_or, take}
+use lib.ListN.{get_or, take}
 use Rattle.model.specs.Lists.{count}
-use Rattle.model.specs.Table.{Member, members_in, table_of, well_formed}
+use Rattle.model.specs.Table.{Member, members_in, well_formed}
 use Rattle.model.specs.Ring.{on_ring, ring_members, moves_to_ring}
-use Rattle.model.specs.Answer.{accepted, declined}
-use Rattle.model.specs.Steps.{audit_reply}
 use Rattle.model.specs.Refusals.{findings_refusal}
-use Rattle.laws.specs.Accepted.{declined_answer, unchanged}
 use Rattle.table.proofs.Members.{ids_count}
 use Rattle.best_successors.proofs.Laws.{member_count}
-use Rattle.answers.specs.Report.{answer_of}
-use Rattle.finding.specs.declared.Survey.{Survey}
 use Rattle.places.specs.Each.{Each}
-use Rattle.places.proofs.Arrays.{each_counted, each_none}
-use Rattle.principal.specs.Marks.{principal_bit}
-use Rattle.finding.specs.Survey.{Surveyed, Prepared}
+use Rattle.places.proofs.Arrays.{each_counted}
 use Rattle.moves.proofs.Moves.{no_moves}
 
 -- Counted by their numbers
@@ -51,22 +44,3 @@ module _ (ws : List ℕ) where
     pub not_refused : well_formed ws ≡ true → n ≤ room → findings_refusal ws room ≡ 0
     unfolding findings_refusal
     not_refused e h = rw (e, member_count ws, le-ltb room n h)
-
-    -- The surveys
-
-    module _ (s : Survey) where
-      pub declined_survey : (k : ℕ) → (k ≡ 0 → ⊥) → findings_refusal ws room ≡ k → s.members ≡ 0 → answer_of s.reply ≡ declined k → Prepared ws room s
-      declined_survey k z e m a = record {
-        right = record {
-          table = λ h. absurd (omega arith);
-          most = omega arith;
-          principals = rw m (each_none ms (principal_bit ms) s.principal);
-          ways = rw m (each_none ms (moves_to_ring ms) s.moves);
-        };
-        members = m ∙ rw e (ap length (unchanged k ms [] z));
-        within = omega arith;
-        reply = a ∙ rw e (declined_answer k (accepted (audit_reply (table_of ws))) z);
-      }
-
-      pub accepted_survey : findings_refusal ws room ≡ 0 → n ≤ room → Surveyed ws s → s.members ≡ n → answer_of s.reply ≡ accepted (audit_reply (table_of ws)) → Prepared ws room s
-      accepted_survey e h r m a = record { right = r; members = m ∙ rw e (sym (member_count ws)); within = omega arith; reply = a ∙ rw e }

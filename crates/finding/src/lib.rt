@@ -5,14 +5,16 @@ ghost use Rattle.std.specs.Prelude.{◌≡◌, ◌<◌, get_or};
 ghost use Rattle.model.specs.Table.{members_in, table_of, ids};
 ghost use Rattle.model.specs.Ring.{moves_to_ring};
 ghost use Rattle.model.specs.Findings.{finding_of};
-ghost use Rattle.model.specs.Answer.{accepted, declined as declinedBy};
+ghost use Rattle.model.specs.Refusals.{findings_refusal};
 ghost use Rattle.model.specs.Steps.{audit_reply};
 ghost use Rattle.table.specs.FormedWords.{FormedWords};
 ghost use Rattle.principal.specs.Marks.{principal_bit};
-ghost use Rattle.answers.specs.Report.{answer_of};
+ghost use Rattle.answers.specs.Judged.{Judges};
+ghost use Rattle.answers.specs.Report.{values_of};
 ghost use Rattle.finding.specs.View.{view};
-ghost use Rattle.finding.specs.Survey.{Surveyed, Prepared};
+ghost use Rattle.finding.specs.Survey.{Surveyed};
 
+use answers::refusal::Refusal;
 use answers::report::Report;
 
 // One member's finding: identifier, 1 for a principal and else 0, moves to the ring (0 on it; the member count if the walk never comes there).
@@ -29,7 +31,7 @@ pub struct Finding {
 pub struct Survey {
     // what the call answers
     pub reply: Report,
-    // how many findings are to be written: none where the call is declined
+    // how many findings are to be written
     pub members: usize,
     // by place: 1 for a principal, else 0
     pub principal: [u16; 256],
@@ -38,9 +40,9 @@ pub struct Survey {
 }
 
 // The survey of a well-formed table: all its members. Those on the ring are those with no move to make.
-fn survey_of(t: &[u32]) -> Survey
+pub fn survey_of(t: &[u32]) -> Survey
     requires { FormedWords t.now }
-    ensures { Surveyed t.now result × (result.members ≡ get_or t.now 1 0) × (answer_of result.reply ≡ accepted (audit_reply (table_of t.now))) }
+    ensures { Surveyed t.now result × (result.members ≡ get_or t.now 1 0) × (values_of result.reply ≡ audit_reply (table_of t.now)) }
 {
     let n = t[words::COUNT] as usize;
     let best = best_successors::best_places(t);
@@ -48,40 +50,31 @@ fn survey_of(t: &[u32]) -> Survey
     let principal = principal::principal_bits(t);
     let on = places::count_of(&moves, n, 0);
     let count = places::count_of(&principal, n, 1);
-    let v = verdict::verdict_of(t, &best, count);
-    let reply = Report::Audited(n as u32, count as u32, on as u32, v);
+    let reply = Report {
+        members: t[words::COUNT],
+        principals: count as u32,
+        ring_members: on as u32,
+        verdict: verdict::verdict_of(t, &best, count),
+    };
     Survey {
-        reply: reply,
+        reply,
         members: n,
-        principal: principal,
-        moves: moves,
+        principal,
+        moves,
     }
 }
 
-// The survey of a call that a number declines: no findings.
-fn declined(number: u32) -> Survey
-    ensures { (result.members ≡ 0) × (answer_of result.reply ≡ declinedBy number) }
+// May the findings go into a list of `room` records? Or 1 or 10.
+pub fn judged(t: &[u32], room: usize) -> Result<(), Refusal>
+    ensures { Judges (findings_refusal t.now room) tt result }
 {
-    Survey {
-        reply: Report::Declined(number),
-        members: 0,
-        principal: [0u16; 256],
-        moves: [0u16; 256],
+    if !table::well_formed(t) {
+        return Err(Refusal::NotWellFormed);
     }
-}
-
-// The survey for a list of `room` records.
-pub fn prepare(t: &[u32], room: usize) -> Survey
-    ensures { Prepared t.now room result }
-{
-    if table::well_formed(t) {
-        let n = t[words::COUNT] as usize;
-        if room < n {
-            return declined(10);
-        }
-        return survey_of(t);
+    if room < t[words::COUNT] as usize {
+        return Err(Refusal::TooShort);
     }
-    declined(1)
+    Ok(())
 }
 
 // The finding of the member at place k, of its two numbers in a survey.

@@ -4,7 +4,7 @@ use mathlib.Core.Path.{◌≡◌, refl, sym, ap, ◌∙◌}
 use mathlib.Core.List.{List, [], ◌∷◌, ◌++◌, append_assoc}
 use mathlib.Core.Bool.{not}
 use native.Mathlib.Omega.{arith}
-use borrow.Author.Tests.{ltb-false}
+use borrow.Author.Tests.{ltb-false, not-false}
 use lib.Dec.{ltb}
 use lib.ListN.{length, get_or, take, drop, set, length-map, get_or-map}
 use lib.Seq.{take-suc, take-length, drop-cons, length-take-le, set_at}
@@ -17,9 +17,13 @@ use Rattle.model.specs.Refusals.{findings_refusal}
 use Rattle.model.specs.Calls.{findings_answer, findings_after}
 use Rattle.laws.specs.Lists.{length_ids}
 use Rattle.laws.specs.Accepted.{none_applies}
+use Rattle.table.specs.FormedWords.{FormedWords}
+use Rattle.table.proofs.WellFormed.{formed_words}
 use Rattle.finding.specs.declared.Finding.{Finding}
 use Rattle.finding.specs.View.{view, views}
-use Rattle.finding.specs.Survey.{to_write}
+use Rattle.answers.specs.Refusal.{number_of, refused}
+use Rattle.answers.specs.declared.refusal.Refusal.{Refusal}
+use Rattle.answers.proofs.Judged.{declined_by, kept_by}
 use Rattle.findings.specs.Filled.{record_at, filled}
 
 views_set : (fs : List Finding) (k : ℕ) (f : Finding) → views (set fs k f) ≡ set (views fs) k (view f)
@@ -49,24 +53,29 @@ module _ (ws : List ℕ) (ys : List Finding) where
   abbrev ms : List Member
   ms = members_in ws
 
-  -- a list that is not too short
-  enough : findings_refusal ws (length ys) ≡ 0 → length ms ≤ length ys
+  -- nothing declines the call: the table is well-formed, and the list is not too short
+  pub formed : findings_refusal ws (length ys) ≡ 0 → FormedWords ws
   unfolding findings_refusal
-  enough e = ltb-false (length ys) (length ms) (none_applies 9 (ltb (length ys) (length ms)) 0 (none_applies 0 (not (well_formed ws)) _ e).1).0
+  formed e = formed_words ws (not-false _ (none_applies 0 (not (well_formed ws)) _ e).0)
+
+  pub enough_room : findings_refusal ws (length ys) ≡ 0 → length ms ≤ length ys
+  unfolding findings_refusal
+  enough_room e = ltb-false (length ys) (length ms) (none_applies 9 (ltb (length ys) (length ms)) 0 (none_applies 0 (not (well_formed ws)) _ e).1).0
 
   all_filled : length ms ≤ length ys → views (filled ms (length ms) ys) ≡ overlay (findings ms) (views ys)
   all_filled h = filled_views ms ys (length ms) (omega arith) h ∙ rw (← findings_length ms, take-length (findings ms))
 
-  -- the records that are written for a call leave what the model says
-  pub filled_after : views (filled ms (to_write ws (length ys)) ys) ≡ findings_after ws (views ys)
+  -- the records that are written for an accepted call are what the model says
+  pub filled_after : findings_refusal ws (length ys) ≡ 0 → views (filled ms (length ms) ys) ≡ findings_after ws (views ys)
   unfolding findings_after
-  filled_after = rw (length-map ys view) (go (findings_refusal ws (length ys)) refl)
-    where
-      go : (k : ℕ) → findings_refusal ws (length ys) ≡ k → views (filled ms (length (afterwards k ms [])) ys) ≡ afterwards k (overlay (findings ms) (views ys)) (views ys)
-      go zero e = all_filled (enough e)
-      go (suc k) e = refl
+  filled_after e = rw (length-map ys view, e) (all_filled (enough_room e))
 
-  -- and a survey's answer is the call's
-  pub answered : (a : Answer) → a ≡ answer (findings_refusal ws (length ys)) (accepted (audit_reply (table_of ws))) → a ≡ findings_answer ws (views ys)
+  -- and the reply is the call's
+  pub answered : (vs : List ℕ) → findings_refusal ws (length ys) ≡ 0 → vs ≡ audit_reply (table_of ws) → accepted vs ≡ findings_answer ws (views ys)
   unfolding findings_answer
-  answered a e = e ∙ rw (length-map ys view)
+  answered vs e h = rw (length-map ys view, e) (ap accepted h)
+
+  -- a declined call answers its number, and leaves the records
+  pub declined_call : (e : Refusal) → findings_refusal ws (length ys) ≡ number_of e → (refused e ≡ findings_answer ws (views ys)) × (views ys ≡ findings_after ws (views ys))
+  unfolding findings_answer findings_after
+  declined_call e h = rw length-map (declined_by e h _, kept_by e h _ _)

@@ -4,24 +4,23 @@
 ghost use Rattle.std.specs.Prelude.{◌≡◌, true, ◌<◌, get_or};
 ghost use Rattle.model.specs.Lists.{rising};
 ghost use Rattle.model.specs.Table.{members_in, ids};
-ghost use Rattle.model.specs.Answer.{accepted};
 ghost use Rattle.model.specs.Held.{runs_of, bounds};
 ghost use Rattle.model.specs.Calls.{held_answer};
 ghost use Rattle.table.specs.FormedWords.{FormedWords};
-ghost use Rattle.answers.specs.Runs.{answer_of};
+ghost use Rattle.answers.specs.Runs.{answer_of, values_of};
 
+use answers::refusal::Refusal;
 use answers::runs::{Run, Runs};
-use standing::Standing;
 
 // The runs of the member at a place: two of the lowest, one of any other.
 fn runs_at(t: &[u32], at: usize, ks: &[u32]) -> Runs
     requires formed_words { FormedWords t.now }
     requires at_bound { at < get_or t.now 1 0 }
     requires ks_value { rising ks.now ≡ true }
-    ensures { answer_of result ≡ accepted (bounds (runs_of (members_in t.now) (get_or (ids (members_in t.now)) at 0) ks.now)) }
+    ensures { values_of result ≡ bounds (runs_of (members_in t.now) (get_or (ids (members_in t.now)) at 0) ks.now) }
 {
     let own = rising::keys_to(ks, best_successors::id_at(t, at));
-    if at < 1 {
+    if at == 0 {
         let last = t[words::COUNT] as usize - 1;
         let above = Run {
             start: rising::keys_to(ks, best_successors::id_at(t, last)),
@@ -37,16 +36,12 @@ fn runs_at(t: &[u32], at: usize, ks: &[u32]) -> Runs
 }
 
 // The runs of the keys that the member n holds, or 1, 3 or 12.
-pub fn held(t: &[u32], n: u32, ks: &[u32]) -> Runs
+pub fn held(t: &[u32], n: u32, ks: &[u32]) -> Result<Runs, Refusal>
     ensures { answer_of result ≡ held_answer t.now n ks.now }
 {
-    match standing::standing_of(t, n) {
-        Standing::At(at) => {
-            if rising::is_rising(ks) {
-                return runs_at(t, at, ks);
-            }
-            Runs::Declined(12)
-        }
-        Standing::Declined(c) => Runs::Declined(c),
+    let at = standing::standing_of(t, n)?;
+    if !rising::is_rising(ks) {
+        return Err(Refusal::NotRising);
     }
+    Ok(runs_at(t, at, ks))
 }

@@ -1,14 +1,17 @@
 -- The next members up and down by place in the words of a table; a list compared with the next up entry by entry; one member, and all of them. Assumes nothing.
-use Prim.Native.Nat.{ℕ, suc, ◌+◌, ◌*◌, ◌-◌, ◌≤◌, ◌<◌}
+use Prim.Native.Nat.{ℕ, zero, suc, ◌+◌, ◌*◌, ◌-◌, ◌≤◌, ◌<◌}
 use mathlib.Core.Path.{◌≡◌, refl, sym, ap, ◌∙◌}
 use mathlib.Core.Bool.{Bool, true, false, ◌&&◌, and-true, and-false}
 use mathlib.Core.List.{List, [], ◌∷◌}
 use native.Mathlib.Nat.{add-mul}
 use native.Mathlib.Omega.{arith}
 use lib.Dec.{eqb}
-use lib.ListN.{length, get_or, take, drop, length-drop, drop_of_length-le}
-use lib.Seq.{drop-cons, drop-drop, take-append-le, get_or-drop}
+use lib.ListN.{length, get_or, take, drop, length-drop}
+use lib.Seq.{drop-drop, take-append-le, get_or-drop}
 use borrow.Author.Tests.{eq-eqb, ne_eqb}
+use Rattle.std.specs.Bool.{MatchBool}
+use Rattle.std.specs.List.{AllWithin, HoldsAt, range_with_len}
+use Rattle.std.proofs.lemmas.List.FromFn.{length-range_with_len, get_or-range_with_len}
 use Rattle.model.specs.Lists.{every, same}
 use Rattle.model.specs.Table.{Member, header_size, record_size, table_of, members_of, members_in, ids}
 use Rattle.model.specs.Ring.{nobody, next_up, next_down, next_ups, ideal_member, ideal}
@@ -35,38 +38,6 @@ module _ (ws : List ℕ) (f : FormedWords ws) (k : ℕ) (h : k < get_or ws 1 0) 
 
   pub down_round : k < 1 → get_or (ids (members_in ws)) (get_or ws 1 0 - 1) 0 ≡ next_down (ids (members_in ws)) (get_or (ids (members_in ws)) k 0)
   down_round l = ap (λ (n : ℕ). get_or (ids (members_in ws)) (n - 1) 0) (sym (ids_count ws)) ∙ below_round (ids (members_in ws)) f.rises k within l
-
--- A list p against a list l that starts with y, entry by entry
-
-module _ (p k l : List ℕ) (y : ℕ) (first : l ≡ y ∷ k) (some : 0 < length p) where
-  pub differs : (get_or p 0 0 ≡ y → ⊥) → false ≡ same p l
-  differs n = rw first (go p some n)
-    where
-      go : (q : List ℕ) → 0 < length q → (get_or q 0 0 ≡ y → ⊥) → false ≡ same q (y ∷ k)
-      go [] h n = absurd (omega arith)
-      go (u ∷ q) h n = rw (ne_eqb u y n)
-
-  pub agrees : get_or p 0 0 ≡ y → same (drop 1 p) k ≡ same p l
-  agrees e = rw first (go p some e)
-    where
-      go : (q : List ℕ) → 0 < length q → get_or q 0 0 ≡ y → same (drop 1 q) k ≡ same q (y ∷ k)
-      go [] h e = absurd (omega arith)
-      go (u ∷ q) h e = rw (eq-eqb u y e)
-
--- where p has no entry, against as many of any
-pub none_differs : (p : List ℕ) (f : ℕ → List ℕ) → f 0 ≡ [] → length p ≤ 0 → true ≡ same p (f (length p))
-none_differs [] f e h = rw e
-none_differs (u ∷ p) f e h = absurd (omega arith)
-
--- as many as p has entries, of the next up from x, and of the identifiers of the records at the front
-
-pub first_up : (xs p : List ℕ) (x y : ℕ) → y ≡ next_up xs x → 0 < length p → next_ups (length p) xs x ≡ y ∷ next_ups (length (drop 1 p)) xs y
-first_up xs [] x y e h = absurd (omega arith)
-first_up xs (u ∷ p) x y e h = rw e
-
-pub first_record : (r : ℕ) (p ws : List ℕ) → 0 < length p → ids (members_of r (length p) ws) ≡ get_or ws 0 0 ∷ ids (members_of r (length (drop 1 p)) (drop (record_size r) ws))
-first_record r [] ws h = absurd (omega arith)
-first_record r (u ∷ p) ws h = refl
 
 -- The members above place k, where there are as many as a list has entries
 
@@ -117,26 +88,42 @@ module _ (ws : List ℕ) (k at : ℕ) (h : k < get_or ws 1 0) (e : at ≡ header
       → b ≡ same l (next_ups (length l) xs (get_or xs k 0)) → b ≡ ideal_member (get_or ws 0 0) xs (get_or (members_in ws) k nobody)
   by_list l b p q n t = t ∙ rw (by_words, eq-eqb _ _ p, and-true, n, q)
 
--- All members, from place k on
+-- All members, by place
+
+every_at : (f : Member → Bool) (l : List Member) → ((k : ℕ) → k < length l → f (get_or l k nobody) ≡ true) → every f l ≡ true
+every_at f [] e = refl
+every_at f (m ∷ l) e = rw (e 0 (omega arith)) (every_at f l (λ k h. e (suc k) (omega arith)))
+
+one_fails : (f : Member → Bool) (l : List Member) (k : ℕ) → k < length l → f (get_or l k nobody) ≡ false → every f l ≡ false
+one_fails f [] k h e = absurd (omega arith)
+one_fails f (m ∷ l) zero h e = rw e
+one_fails f (m ∷ l) (suc k) h e = rw (one_fails f l k (omega arith) e) (and-false (f m))
 
 module _ (ws : List ℕ) where
-  abbrev right : Member → Bool
-  right = ideal_member (get_or ws 0 0) (ids (members_in ws))
+  abbrev right : ℕ → Bool
+  right k = ideal_member (get_or ws 0 0) (ids (members_in ws)) (get_or (members_in ws) k nobody)
 
-  -- as many as the header says
-  many : length (members_in ws) ≡ get_or ws 1 0
-  many = members_length (get_or ws 0 0) (get_or ws 1 0) (drop header_size ws)
+  -- the places
+  abbrev places : List ℕ
+  places = range_with_len 0 (get_or ws 1 0)
 
-  pub from_first : every right (drop 0 (members_in ws)) ≡ ideal (table_of ws)
+  -- what is told of each place's member, or of one that is not ideal, is told of the table
+  pub told : (b : Bool) → MatchBool b (AllWithin (λ k. k < get_or ws 1 0 → right k ≡ true) places 0 (length places)) ((k : ℕ) × (k < length places) × HoldsAt (λ k. k < get_or ws 1 0 → right k ≡ false) places k) → b ≡ ideal (table_of ws)
   unfolding ideal
-  from_first = refl
+  told b = go b
+    where
+      many : length (members_in ws) ≡ get_or ws 1 0
+      many = members_length (get_or ws 0 0) (get_or ws 1 0) (drop header_size ws)
 
-  module _ (k : ℕ) where
-    pub wrong_here : k < get_or ws 1 0 → right (get_or (members_in ws) k nobody) ≡ false → false ≡ every right (drop k (members_in ws))
-    wrong_here h e = rw (drop-cons (members_in ws) k nobody (omega (arith, many)), e)
+      at : (k : ℕ) → k < get_or ws 1 0 → get_or places k 0 ≡ k
+      at k h = omega (arith, get_or-range_with_len 0 (get_or ws 1 0) k 0 h)
 
-    pub right_here : k < get_or ws 1 0 → right (get_or (members_in ws) k nobody) ≡ true → every right (drop (k + 1) (members_in ws)) ≡ every right (drop k (members_in ws))
-    right_here h e = let q : k + 1 ≡ suc k = omega arith in rw (q, drop-cons (members_in ws) k nobody (omega (arith, many)), e)
-
-    pub none_left : get_or ws 1 0 ≤ k → true ≡ every right (drop k (members_in ws))
-    none_left h = rw (drop_of_length-le (members_in ws) {i = k} (omega (arith, many)))
+      go : (b : Bool) → MatchBool b (AllWithin (λ k. k < get_or ws 1 0 → right k ≡ true) places 0 (length places)) ((k : ℕ) × (k < length places) × HoldsAt (λ k. k < get_or ws 1 0 → right k ≡ false) places k) → b ≡ ideal (table_of ws)
+      go true w = sym (every_at (ideal_member (get_or ws 0 0) (ids (members_in ws))) (members_in ws) (λ k h.
+          let l : k < get_or ws 1 0 = omega (arith, many) in
+          let e = rw (at k l) at (w k 0 (omega arith) (omega (arith, length-range_with_len 0 (get_or ws 1 0)))) in
+          e l))
+      go false w =
+          let l : w.0 < get_or ws 1 0 = omega (arith, w.1, length-range_with_len 0 (get_or ws 1 0)) in
+          let e = rw (at w.0 l) at (w.2 0) in
+          sym (one_fails (ideal_member (get_or ws 0 0) (ids (members_in ws))) (members_in ws) w.0 (omega (arith, many)) (e l))

@@ -41,14 +41,10 @@ fn names_front(s: &[u32], r: usize, l: &[u32]) -> bool
     ensures { result ≡ same l.now (ids (members_of r (length l.now) s.now)) }
 {
     let w = words::record_size(r);
-    let mut p = l;
-    let mut q = s;
-    while 0 < p.len() {
-        if p[0] != q[words::ID] {
+    for (x, record) in l.iter().zip(s.chunks_exact(w)) {
+        if *x != record[words::ID] {
             return false;
         }
-        p = &p[1..];
-        q = &q[w..];
     }
     true
 }
@@ -59,14 +55,12 @@ fn names_round(t: &[u32], k: usize, l: &[u32]) -> bool
     requires k_bound { k < get_or t.now 1 0 }
     ensures { result ≡ same l.now (next_ups (length l.now) (ids (members_in t.now)) (get_or (ids (members_in t.now)) k 0)) }
 {
-    let mut rest = l;
     let mut j = k;
-    while 0 < rest.len() {
+    for &x in l {
         j = place_above(t, j);
-        if rest[0] != best_successors::id_at(t, j) {
+        if x != best_successors::id_at(t, j) {
             return false;
         }
-        rest = &rest[1..];
     }
     true
 }
@@ -109,13 +103,5 @@ pub fn is_ideal(t: &[u32]) -> bool
     ensures { result ≡ ideal (table_of t.now) }
 {
     let n = t[words::COUNT] as usize;
-    let mut k = 0;
-    while k < n {
-        if member_ideal(t, k) {
-            k += 1;
-        } else {
-            return false;
-        }
-    }
-    true
+    (0..n).all(|k| member_ideal(t, k))
 }

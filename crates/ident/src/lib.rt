@@ -17,8 +17,9 @@ pub fn between(a: u32, n: u32, b: u32) -> bool
 }
 
 // The identifier after n, where each word is one: a wrapping add of one.
+#[tactic(auto, using(crate::proofs::Wrap::after_wraps))]
 pub fn after(n: u32) -> u32
     ensures { result ≡ after_of word_limit n }
 {
-    std::num::wrapping_add_u32(n, 1)
+    n.wrapping_add(1)
 }

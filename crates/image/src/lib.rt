@@ -9,11 +9,9 @@ ghost use Rattle.laws.specs.Bytes.{field_size};
 ghost use Rattle.table.specs.FormedWords.{FormedWords};
 ghost use Rattle.octets.specs.Placed.{placed};
 ghost use Rattle.fields.specs.Fields.{first_size, image_size};
-ghost use Rattle.answers.specs.MemberCount.{answer_of as count_of};
-ghost use Rattle.answers.specs.ByteCount.{answer_of as byteCountOf};
+ghost use Rattle.answers.specs.Count.{answer_of};
 
-use answers::byte_count::ByteCount;
-use answers::member_count::MemberCount;
+use answers::refusal::Refusal;
 
 // One field a member, for n records, after the first field.
 fn write_fields(out: &mut [u8], ws: &[u32], r: usize, n: usize)
@@ -21,15 +19,10 @@ fn write_fields(out: &mut [u8], ws: &[u32], r: usize, n: usize)
     ensures { out.new ≡ placed first_size (member_fields (members_of r n ws.now)) out.old }
 {
     let w = words::record_size(r);
-    let b = fields::field_size(w);
-    let mut p = ws;
     let mut at = fields::MEMBERS;
-    let mut left = n;
-    while 0 < left {
-        fields::write_field(out, at, &p[..w], r);
-        p = &p[w..];
-        at += b;
-        left -= 1;
+    for part in ws[..n * w].chunks_exact(w) {
+        fields::write_field(out, at, part, r);
+        at += fields::HEAD + fields::member_length(r);
     }
 }
 
@@ -48,18 +41,18 @@ fn write_image(t: &[u32], out: &mut [u8])
 }
 
 // Writes the image of the table: the bytes written, or 1 or 10 with the bytes unchanged.
-pub fn write(t: &[u32], out: &mut [u8]) -> ByteCount
-    ensures { (byteCountOf result ≡ write_answer t.now out.old) × (out.new ≡ write_bytes t.now out.old) }
+pub fn write(t: &[u32], out: &mut [u8]) -> Result<u32, Refusal>
+    ensures { (answer_of result ≡ write_answer t.now out.old) × (out.new ≡ write_bytes t.now out.old) }
 {
-    if table::well_formed(t) {
-        let size = fields::image_size(t[words::R] as usize, t[words::COUNT] as usize);
-        if out.len() < size {
-            return ByteCount::Declined(10);
-        }
-        write_image(t, out);
-        return ByteCount::Bytes(size as u32);
+    if !table::well_formed(t) {
+        return Err(Refusal::NotWellFormed);
     }
-    ByteCount::Declined(1)
+    let size = fields::image_size(t[words::R] as usize, t[words::COUNT] as usize);
+    if out.len() < size {
+        return Err(Refusal::TooShort);
+    }
+    write_image(t, out);
+    Ok(size as u32)
 }
 
 // The records of n members, from their fields, after the header.
@@ -67,16 +60,11 @@ fn read_fields(t: &mut [u32], f: &[u8], r: usize, n: usize)
     requires { (r ≤ 8) × (n * field_size r ≤ length f.now) × (header_size + n * record_size r ≤ length t.old) }
     ensures { t.new ≡ placed header_size (records_of (field_members r n f.now)) t.old }
 {
-    let s = words::record_size(r);
-    let w = fields::field_size(s);
-    let mut p = f;
+    let w = fields::HEAD + fields::member_length(r);
     let mut at = words::HEADER;
-    let mut left = n;
-    while 0 < left {
-        fields::read_field(t, at, &p[..w], r);
-        p = &p[w..];
-        at += s;
-        left -= 1;
+    for part in f[..n * w].chunks_exact(w) {
+        fields::read_field(t, at, part, r);
+        at += words::record_size(r);
     }
 }
 
@@ -95,16 +83,16 @@ fn read_image(t: &mut [u32], image: &[u8])
 }
 
 // Reads an image into the words: the member count, or 9 or 10 with the words unchanged. The old words are never looked at.
-pub fn read(t: &mut [u32], image: &[u8]) -> MemberCount
-    ensures { (count_of result ≡ read_answer t.old image.now) × (t.new ≡ read_words t.old image.now) }
+pub fn read(t: &mut [u32], image: &[u8]) -> Result<u32, Refusal>
+    ensures { (answer_of result ≡ read_answer t.old image.now) × (t.new ≡ read_words t.old image.now) }
 {
-    if image_test::is_image(image) {
-        let n = fields::image_count(image);
-        if t.len() < words::offset(fields::image_r(image), n) {
-            return MemberCount::Declined(10);
-        }
-        read_image(t, image);
-        return MemberCount::Members(n as u32);
+    if !image_test::is_image(image) {
+        return Err(Refusal::NoImage);
     }
-    MemberCount::Declined(9)
+    let n = fields::image_count(image);
+    if t.len() < words::offset(fields::image_r(image), n) {
+        return Err(Refusal::TooShort);
+    }
+    read_image(t, image);
+    Ok(n as u32)
 }

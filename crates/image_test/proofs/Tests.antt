@@ -1,43 +1,15 @@
--- The tests of `field_ok` and `fields_ok`, one at a time. Assumes nothing.
-use Prim.Native.Nat.{ℕ, zero, suc, ◌+◌, ◌-◌, ◌≤◌, ◌<◌}
-use mathlib.Core.Path.{◌≡◌, ap}
-use mathlib.Core.Bool.{Bool, true, false, ◌&&◌, and-false}
-use mathlib.Core.List.{List}
-use native.Mathlib.Omega.{arith}
-use lib.Dec.{eqb}
-use lib.ListN.{take, drop}
-use lib.Seq.{get_or-take}
-use borrow.Author.Tests.{lt-leb, le-leb, ne_eqb}
+-- What `fields_ok` goes over, one field at a time. Assumes nothing.
+use Rattle.std.proofs.Common.{◌≡◌, ℕ, zero, suc, ◌+◌, ◌-◌, ◌*◌, ◌<◌, ◌&&◌, List, [], ◌∷◌, ◌++◌, length, take, drop, sym, ap, refl, ◌∙◌, arith, append_assoc, length-append, suc-mul, get_or-take}
+use Rattle.std.proofs.lemmas.List.{take_at, drop_at}
 use Rattle.model.specs.Table.{Member}
-use Rattle.model.specs.Image.{member_length}
 use Rattle.laws.specs.Bytes.{field_size, number_part, field_part}
-use Rattle.table.specs.Tests.{right_pending}
-use Rattle.fields.specs.Fields.{head_is, id_in, pending_in, candidate_in}
+use Rattle.fields.specs.Fields.{head_is, id_in}
 use Rattle.image_test.specs.Tests.{field_right, fields_right}
 
-module _ (r lo : ℕ) (f : List ℕ) where
-  pub head_wrong : head_is f 2 (member_length r) ≡ false → false ≡ field_right r lo f
-  unfolding field_right
-  head_wrong h = rw h
-
-  pub id_low : id_in f < lo → false ≡ field_right r lo f
-  unfolding field_right
-  id_low h = simp (lt-leb lo (id_in f) h, and-false)
-
-  pub pending_high : 1 < pending_in f → false ≡ field_right r lo f
-  unfolding field_right right_pending
-  pending_high h = simp (lt-leb (pending_in f) 1 h, and-false)
-
-  module _ (head : head_is f 2 (member_length r) ≡ true) (id : lo ≤ id_in f) where
-    pub pending_set : pending_in f ≡ 1 → true ≡ field_right r lo f
-    unfolding field_right right_pending
-    pending_set h = rw (head, le-leb lo (id_in f) id, h)
-
-    pub pending_none : pending_in f ≤ 1 → (pending_in f ≡ 1 → ⊥) → eqb (candidate_in f) 0 ≡ field_right r lo f
-    unfolding field_right right_pending
-    pending_none h n = rw (head, le-leb lo (id_in f) id, le-leb (pending_in f) 1 h, ne_eqb (pending_in f) 1 n)
-
 -- the test looks at the field's own bytes
+id_part : (r : ℕ) (f : List ℕ) → id_in (take (field_size r) f) ≡ id_in f
+id_part r f = ap (λ (x : Member). x.id) (field_part r f)
+
 pub right_part : (r lo : ℕ) (f : List ℕ) → field_right r lo (take (field_size r) f) ≡ field_right r lo f
 unfolding field_right
 right_part r lo f =
@@ -50,14 +22,23 @@ right_part r lo f =
       ap (λ (x : Member). x.candidate) m,
     )
 
-first_field : (r n lo : ℕ) (f : List ℕ) → 0 < n → fields_right r lo n f ≡ (field_right r lo f && fields_right r (id_in f + 1) (n - 1) (drop (field_size r) f))
-first_field r zero lo f h = absurd (omega arith)
-first_field r (suc n) lo f h = let q : suc n - 1 ≡ n = omega arith in rw q
+-- `fields_ok`: a part with a field is the first of n, and the n - 1 others are left
+module _ (r lo : ℕ) (rest part left last : List ℕ) (e : rest ≡ part ++ left) (l : length part ≡ field_size r) where
+  pub one_field : (n : ℕ) → length rest ≡ n * field_size r
+      → (length left ≡ (n - 1) * field_size r) × (fields_right r lo n (rest ++ last) ≡ (field_right r lo part && fields_right r (id_in part + 1) (n - 1) (left ++ last)))
+  one_field zero h = let t : length rest ≡ length part + length left = rw e (length-append part left) in absurd (omega arith)
+  one_field (suc n) h =
+      let t : length rest ≡ length part + length left = rw e (length-append part left) in
+      let k : suc n - 1 ≡ n = omega arith in
+      let f : rest ++ last ≡ part ++ (left ++ last) = rw e (append_assoc part left last) in
+      let p : take (field_size r) (part ++ (left ++ last)) ≡ part = take_at part (left ++ last) (field_size r) l in
+      let d : drop (field_size r) (part ++ (left ++ last)) ≡ left ++ last = drop_at part (left ++ last) (field_size r) l in
+      let i : id_in (part ++ (left ++ last)) ≡ id_in part = sym (id_part r (part ++ (left ++ last))) ∙ ap id_in p in
+      let q : field_right r lo (part ++ (left ++ last)) ≡ field_right r lo part = sym (right_part r lo (part ++ (left ++ last))) ∙ ap (field_right r lo) p in
+      (rw k (omega (arith, suc-mul n (field_size r))), rw (k, f, d, i, q))
 
--- `fields_ok`: the test b of the first field settles it, or leaves the others
-module _ (r n lo : ℕ) (f : List ℕ) (b : Bool) (h : 0 < n) (t : b ≡ field_right r lo f) where
-  pub right_field : b ≡ true → fields_right r (id_in f + 1) (n - 1) (drop (field_size r) f) ≡ fields_right r lo n f
-  right_field e = rw (first_field r n lo f h, ← t, e)
-
-  pub wrong_field : b ≡ false → false ≡ fields_right r lo n f
-  wrong_field e = rw (first_field r n lo f h, ← t, e)
+-- and where none is left, the last follows
+pub last_field : (r lo n : ℕ) (rest last : List ℕ) → length rest < field_size r → length rest ≡ n * field_size r → head_is last 3 0 ≡ fields_right r lo n (rest ++ last)
+last_field r lo zero [] last h k = refl
+last_field r lo zero (x ∷ rest) last h k = absurd (omega arith)
+last_field r lo (suc n) rest last h k = absurd (omega (arith, suc-mul n (field_size r)))

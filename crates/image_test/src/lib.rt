@@ -7,26 +7,15 @@ ghost use Rattle.laws.specs.Bytes.{field_size};
 ghost use Rattle.image_test.specs.Tests.{field_right, fields_right};
 
 // Is the field that the part holds a member's, with an identifier of at least lo, and right?
+#[tactic(auto, unfolding(crate::specs::Tests::field_right, table::specs::Tests::right_pending))]
 fn field_ok(f: &[u8], r: usize, lo: usize) -> bool
     requires { (r ≤ 8) × (length f.now ≡ field_size r) }
     ensures { result ≡ field_right r lo f.now }
 {
-    if fields::head_is(f, fields::MEMBER, fields::member_length(r)) {
-        let id = fields::id_of(f) as usize;
-        if id < lo {
-            return false;
-        }
-        let p = fields::pending_of(f);
-        if 1 < p {
-            return false;
-        }
-        if p == 1 {
-            return true;
-        }
-        let c = fields::candidate_of(f);
-        return c == 0;
-    }
-    false
+    let pending = fields::pending_of(f);
+    fields::head_is(f, fields::MEMBER, fields::member_length(r))
+        && lo <= fields::id_of(f) as usize
+        && (pending == 1 || pending == 0 && fields::candidate_of(f) == 0)
 }
 
 // Are the n fields at the front right, by rising identifier, and the one after them the last?
@@ -34,20 +23,16 @@ fn fields_ok(f: &[u8], r: usize, n: usize) -> bool
     requires { (r ≤ 8) × (n * field_size r + field_head ≤ length f.now) }
     ensures { result ≡ fields_right r 0 n f.now }
 {
-    let w = fields::field_size(words::record_size(r));
-    let mut p = f;
-    let mut left = n;
-    let mut lo: usize = 0;
-    while 0 < left {
-        if field_ok(&p[..w], r, lo) {
-            lo = fields::id_of(p) as usize + 1;
-            p = &p[w..];
-            left -= 1;
-        } else {
+    let w = fields::HEAD + fields::member_length(r);
+    let (members, last) = f.split_at(n * w);
+    let mut lo = 0;
+    for part in members.chunks_exact(w) {
+        if !field_ok(part, r, lo) {
             return false;
         }
+        lo = fields::id_of(part) as usize + 1;
     }
-    fields::head_is(p, fields::LAST, 0)
+    fields::head_is(last, fields::LAST, 0)
 }
 
 // Are the bytes the writing of a well-formed table?

@@ -1,30 +1,21 @@
 // Join: a shelf becomes a member by another.
 #![tactic(auto)]
 
-ghost use Rattle.std.specs.Prelude.{◌≡◌, [], ◌∷◌, length, get_or};
-ghost use Rattle.model.specs.Table.{members_in, table_of};
-ghost use Rattle.model.specs.Answer.{accepted};
+ghost use Rattle.std.specs.Prelude.{◌≡◌, length, get_or};
+ghost use Rattle.model.specs.Table.{members_in, table_of, ids};
 ghost use Rattle.model.specs.Steps.{joiner as joinerOf, joined};
-ghost use Rattle.model.specs.Refusals.{full};
+ghost use Rattle.model.specs.Refusals.{full, join_refusal};
 ghost use Rattle.model.specs.Calls.{written, join_answer, join_words};
 ghost use Rattle.member.specs.View.{view};
 ghost use Rattle.table.specs.FormedWords.{FormedWords};
+ghost use Rattle.table.specs.Rank.{rank};
 ghost use Rattle.table.specs.Located.{Stands};
-ghost use Rattle.answers.specs.MemberCount.{answer_of};
-ghost use Rattle.join.specs.Admission.{admission_of, Admits};
+ghost use Rattle.answers.specs.Judged.{Judges};
+ghost use Rattle.answers.specs.Count.{answer_of};
+ghost use Rattle.join.specs.Admission.{Admits};
 
-use answers::member_count::MemberCount;
+use answers::refusal::Refusal;
 use member::Member;
-use table::Located;
-
-// Whether a shelf may join.
-#[derive(Clone, Copy)]
-enum Admission {
-    // the place where it is missing, and the place of the member that it joins by
-    May(usize, usize),
-    // the number that declines it
-    Declined(u32),
-}
 
 // Is there no room for one more record?
 fn is_full(t: &[u32]) -> bool
@@ -33,37 +24,34 @@ fn is_full(t: &[u32]) -> bool
 {
     let r = t[words::R] as usize;
     let n = t[words::COUNT] as usize;
-    if 256 <= n {
-        return true;
-    }
-    t.len() - words::offset(r, n) < words::record_size(r)
+    256 <= n || t.len() - words::offset(r, n) < words::record_size(r)
 }
 
-// May j join by p?
-fn judged(t: &[u32], j: u32, p: u32) -> Admission
-    ensures { result ≡ admission_of t.now j p }
+// May j join by p? The place where j is missing, and the place of p.
+fn judged(t: &[u32], j: u32, p: u32) -> Result<(usize, usize), Refusal>
+    ensures { Judges (join_refusal t.now j p) (rank (ids (members_in t.now)) j, rank (ids (members_in t.now)) p) result }
 {
-    if table::well_formed(t) {
-        let Located::Missing(at) = table::locate(t, j) else {
-            return Admission::Declined(2);
-        };
-        let Located::Here(k) = table::locate(t, p) else {
-            return Admission::Declined(3);
-        };
-        let m = table::member_at(t, k);
-        let h = m.successors[0];
-        if ident::between(p, j, h) {
-            let Located::Here(_) = table::locate(t, h) else {
-                return Admission::Declined(13);
-            };
-            if is_full(t) {
-                return Admission::Declined(5);
-            }
-            return Admission::May(at, k);
-        }
-        return Admission::Declined(4);
+    if !table::well_formed(t) {
+        return Err(Refusal::NotWellFormed);
     }
-    Admission::Declined(1)
+    let Err(at) = table::locate(t, j) else {
+        return Err(Refusal::AlreadyMember);
+    };
+    let Ok(k) = table::locate(t, p) else {
+        return Err(Refusal::NotMember);
+    };
+    let m = table::member_at(t, k);
+    let h = m.successors[0];
+    if !ident::between(p, j, h) {
+        return Err(Refusal::NotBetween);
+    }
+    if table::locate(t, h).is_err() {
+        return Err(Refusal::DeadFirstEntry);
+    }
+    if is_full(t) {
+        return Err(Refusal::Full);
+    }
+    Ok((at, k))
 }
 
 // The new member j, with the list of p, which stands at place k.
@@ -72,35 +60,31 @@ fn joiner(t: &[u32], k: usize, j: u32, p: u32) -> Member
     requires stands { Stands t.now k p }
     ensures { view (get_or t.now 0 0) result ≡ joinerOf (members_in t.now) j p }
 {
-    let m = table::member_at(t, k);
-    let l = m.successors;
+    let successors = table::member_at(t, k).successors;
     Member {
         id: j,
         predecessor: p,
         pending: 0,
         candidate: 0,
-        successors: l,
+        successors,
         steps: 0,
     }
 }
 
 // j, which may join by p, is put in at its place: the member count afterwards.
-fn admitted(t: &mut [u32], at: usize, k: usize, j: u32, p: u32) -> MemberCount
+fn admitted(t: &mut [u32], at: usize, k: usize, j: u32, p: u32) -> u32
     requires { Admits t.old at k j p }
-    ensures { (answer_of result ≡ accepted (length (joined j p (table_of t.old)).members ∷ [])) × (t.new ≡ written (joined j p (table_of t.old)) t.old) }
+    ensures { (result ≡ length (joined j p (table_of t.old)).members) × (t.new ≡ written (joined j p (table_of t.old)) t.old) }
 {
     let m = joiner(t, k, j, p);
     records::insert_at(t, at, m);
-    let n = t[words::COUNT];
-    MemberCount::Members(n)
+    t[words::COUNT]
 }
 
 // j joins by p: the member count afterwards, or 1, 2, 3, 4, 13 or 5 with the table unchanged.
-pub fn join(t: &mut [u32], j: u32, p: u32) -> MemberCount
+pub fn join(t: &mut [u32], j: u32, p: u32) -> Result<u32, Refusal>
     ensures { (answer_of result ≡ join_answer t.old j p) × (t.new ≡ join_words t.old j p) }
 {
-    match judged(t, j, p) {
-        Admission::May(at, k) => admitted(t, at, k, j, p),
-        Admission::Declined(c) => MemberCount::Declined(c),
-    }
+    let (at, k) = judged(t, j, p)?;
+    Ok(admitted(t, at, k, j, p))
 }

@@ -60,26 +60,20 @@ impl Member {
     }
 
     // One step more is counted, up to the largest word.
+    #[tactic(auto, using(crate::proofs::Count::saturates))]
     pub fn count_step(mut self) -> Self
         ensures { (r : ℕ) → view r result ≡ count_step (view r self) }
     {
-        if self.steps < 4294967295 {
-            self.steps += 1;
-        }
+        self.steps = self.steps.saturating_add(1);
         self
     }
 
     // Does a notice from q change the predecessor? alive: the predecessor is a member.
+    #[tactic(auto, unfolding(model::specs::Steps::renews))]
     pub fn renews(self, q: u32, alive: bool) -> bool
         ensures { (r : ℕ) → result ≡ renewsOf alive q (view r self) }
     {
-        if ident::between(self.predecessor, q, self.id) {
-            return true;
-        }
-        if alive {
-            return false;
-        }
-        true
+        ident::between(self.predecessor, q, self.id) || !alive
     }
 
     // The predecessor becomes q, if the notice changes it.

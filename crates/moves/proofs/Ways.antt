@@ -15,7 +15,7 @@ use Rattle.table.specs.FormedWords.{FormedWords}
 use Rattle.places.specs.Each.{Each}
 use Rattle.best_successors.specs.Places.{next_place}
 use Rattle.ring.specs.Far.{ring_bit}
-use Rattle.moves.specs.Ways.{moves_at, no_more, SoFar, known, unknown, AllSoFar, Along}
+use Rattle.moves.specs.Ways.{moves_at, no_more, SoFar, known, unknown, AllSoFar, Along, Measured}
 use Rattle.moves.proofs.Moves.{moves_few, on_ring_law, stuck, one_more}
 
 module _ (ws : List ℕ) where
@@ -94,28 +94,45 @@ module _ (ws : List ℕ) where
   pub leads_none : (k : ℕ) → Leads k 0 k
   leads_none k e v q w = let z : 0 + e ≡ e = omega arith in rw z w
 
-  module _ (k c y j : ℕ) (f : FormedWords ws) (h : y < n) (o : off y) (t : j ≡ next_place ms y) (l : Leads k c y) where
+  -- c moves lead from k to a place y whose moves are not known, and one more to j
+  pub record Onward (a : List ℕ) (k c y j : ℕ) : Type 0 where
+    pub formed : FormedWords ws
+    pub so_far : AllSoFar ws a
+    pub within : y < n
+    pub not_known : get_or a y 0 ≡ 0
+    pub next : j ≡ next_place ms y
+    pub leads : Leads k c y
+
+  module _ {a : List ℕ} {k c y j : ℕ} (o : Onward a k c y j) where
+    off_ring : off y
+    off_ring = is_off a y (o.so_far.at y o.within) o.not_known
+
     -- no move leads on
-    pub leads_stuck : (v : ℕ) → n ≤ v → n ≤ j → Along ws v (c + 1) k
-    leads_stuck v u b =
-        let s = stuck ws y h f o (rw t at b) in
-        l 1 v (omega arith) (h, omega arith, tt)
+    pub leads_stuck : n ≤ j → c < n → Measured ws k (c + 1) n
+    leads_stuck b l =
+        let s = stuck ws y o.within o.formed off_ring (rw o.next at b) in
+        record { some = omega arith; most = omega arith; value = omega arith; way = o.leads 1 n (omega arith) (o.within, omega arith, tt) }
 
     -- one move more
     pub leads_on : j < n → Leads k (c + 1) j
     leads_on b e v q w =
-        let m = one_more ws y h f o (rw t at b) in
-        let q' : moves_at ws (next_place ms y) ≡ no_more (v + e) n = rw (← t) q in
+        let m = one_more ws y o.within o.formed off_ring (rw o.next at b) in
+        let q' : moves_at ws (next_place ms y) ≡ no_more (v + e) n = rw (← o.next) q in
         let z : c + 1 + e ≡ c + suc e = omega arith in
-        rw z (l (suc e) v (omega arith) (h, omega arith, rw (← t) w))
+        rw z (o.leads (suc e) v (omega arith) (o.within, omega arith, rw (← o.next) w))
 
   module _ (k c y : ℕ) (l : Leads k c y) where
+    known_moves : Along ws (moves_at ws y) c k
+    known_moves = let z : c + 0 ≡ c = omega arith in rw z at (l 0 (moves_at ws y) (omega (arith, moves_few ws y)) tt)
+
     -- the moves from y are known
-    pub leads_known : Along ws (moves_at ws y) c k
-    leads_known = let z : c + 0 ≡ c = omega arith in rw z at (l 0 (moves_at ws y) (omega (arith, moves_few ws y)) tt)
+    pub leads_known : (a : List ℕ) → AllSoFar ws a → y < n → 0 < get_or a y 0 → 0 < c → c ≤ n → Measured ws k c (get_or a y 0 - 1)
+    leads_known a b h p s m =
+        let q : get_or a y 0 - 1 ≡ moves_at ws y = omega (arith, is_known a y (b.at y h) p) in
+        record { some = s; most = m; value = omega (arith, q, moves_few ws y); way = rw q known_moves }
 
     -- n moves are made: the walk never comes to the ring
-    pub leads_never : k < n → n ≤ c → Along ws n 1 k
+    pub leads_never : k < n → n ≤ c → Measured ws k 1 n
     leads_never h b =
-        let w = along (moves_at ws y) c k (omega arith) leads_known in
-        (h, omega arith, tt)
+        let w = along (moves_at ws y) c k (omega arith) known_moves in
+        record { some = omega arith; most = omega arith; value = omega arith; way = (h, omega arith, tt) }

@@ -8,20 +8,13 @@ ghost use Rattle.model.specs.Ring.{moves_to_ring};
 ghost use Rattle.table.specs.FormedWords.{FormedWords};
 ghost use Rattle.places.specs.Each.{Each};
 ghost use Rattle.best_successors.specs.Places.{BestPlaces};
-ghost use Rattle.moves.specs.Ways.{no_more, AllSoFar, KnownAt, Measured};
+ghost use Rattle.moves.specs.Ways.{AllSoFar, KnownAt, Measured};
 
-// A way of so many places whose moves to the ring are not known, and the moves from where it leads: the member count if nowhere.
+// A way of so many places whose moves to the ring are not known, and the moves from where it leads: the member count if nowhere, as in the model.
 #[derive(Clone, Copy)]
 struct Way {
     steps: usize,
     value: u16,
-}
-
-// a, but no more than n.
-fn no_more(a: u16, n: u16) -> u16
-    ensures { result ≡ no_more a n }
-{
-    if n < a { n } else { a }
 }
 
 // The way from place k. The array has by place one more than the moves to the ring, or 0 where they are not known.
@@ -35,20 +28,18 @@ fn way_from(t: &[u32], best: &[u16; 256], a: &[u16; 256], k: usize) -> Way
     let n = t[words::COUNT] as usize;
     let never = n as u16;
     let mut y = k;
-    let mut c: usize = 0;
-    while c < n {
+    for c in 0..n {
         y = best[y] as usize;
-        c += 1;
         if n <= y {
             return Way {
-                steps: c,
+                steps: c + 1,
                 value: never,
             };
         }
         let v = a[y];
         if 0 < v {
             return Way {
-                steps: c,
+                steps: c + 1,
                 value: v - 1,
             };
         }
@@ -71,11 +62,9 @@ fn store_way(t: &[u32], best: &[u16; 256], a: &mut [u16; 256], k: usize, way: Wa
     let n = t[words::COUNT] as u16;
     let v = way.value;
     let mut y = k;
-    let mut left = way.steps;
-    while 0 < left {
-        a[y] = no_more(v + left as u16, n) + 1;
+    for left in (1..=way.steps).rev() {
+        a[y] = (v + left as u16).min(n) + 1;
         y = best[y] as usize;
-        left -= 1;
     }
 }
 
@@ -103,11 +92,9 @@ pub fn all_moves(t: &[u32], best: &[u16; 256]) -> [u16; 256]
     let n = t[words::COUNT] as usize;
     let mut found = ring::ring_bits(t, best);
     let mut a = [0u16; 256];
-    let mut k = 0;
-    while k < n {
+    for k in 0..n {
         find_moves(t, best, &mut found, k);
         a[k] = found[k] - 1;
-        k += 1;
     }
     a
 }

@@ -2,11 +2,12 @@
 use Prim.Native.Nat.{ℕ, zero, suc, ◌+◌, ◌-◌, ◌≤◌, ◌<◌}
 use mathlib.Core.Path.{◌≡◌, refl, sym, ap, ◌∙◌}
 use mathlib.Core.Bool.{true}
-use mathlib.Core.List.{List, [], ◌∷◌, ◌++◌, append_assoc}
+use mathlib.Core.List.{List, [], ◌∷◌, ◌++◌, append_assoc, append-nil}
 use native.Mathlib.Nat.{zero-add}
 use native.Mathlib.Omega.{arith}
 use lib.ListN.{length, get_or, take, drop, set, length-append, length-drop}
-use lib.Seq.{take_at, drop_at, drop-drop, drop-append_seam, take-append-le, set_split, drop-set-lt, sets, sets-eq}
+use Rattle.std.proofs.lemmas.List.{take_more_set}
+use lib.Seq.{take_all, length-take-le, take_at, drop_at, drop-drop, drop-append_seam, take-append-le, set_split, drop-set-lt, sets, sets-eq}
 use Rattle.model.specs.Lists.{rising, overlay}
 use Rattle.model.specs.Table.{record_size, record_of}
 use Rattle.model.specs.Ring.{next_up, next_down, next_ups}
@@ -53,17 +54,22 @@ take_ups zero n xs x h = refl
 take_ups (suc r) zero xs x h = absurd (omega arith)
 take_ups (suc r) (suc n) xs x h = ap (λ (l : List ℕ). next_up xs x ∷ l) (take_ups r n xs (next_up xs x) (omega arith))
 
-module _ (xs : List ℕ) where
-  -- `write_round`: an entry more is stored, and then all are
-  pub ups_on : (l : List ℕ) (r k x v : ℕ) (whole : List ℕ) → k < r → v ≡ next_up xs x → sets l (4 + k) (next_ups (r - k) xs x) ≡ whole
-      → sets (set l (4 + k) v) (4 + (k + 1)) (next_ups (r - (k + 1)) xs v) ≡ whole
-  ups_on l r k x v whole h u e =
-      let q : 4 + (k + 1) ≡ suc (4 + k) = omega arith in
-      let d : r - k ≡ suc (r - (k + 1)) = omega arith in
-      rw (q, u) (rw d at e)
+-- the list's part of a record has so many entries
+pub list_length : (m : List ℕ) (r : ℕ) → record_size r ≤ length m → length (take (4 + r - 4) (drop 4 m)) ≡ r
+list_length m r h = length-take-le (4 + r - 4) (drop 4 m) (simp length-drop (omega arith)) ∙ omega arith
 
-  pub ups_done : (l : List ℕ) (r k x : ℕ) (whole : List ℕ) → k ≡ r → sets l (4 + k) (next_ups (r - k) xs x) ≡ whole → l ≡ whole
-  ups_done l r k x whole h e = let d : r - k ≡ 0 = omega arith in rw d at e
+module _ (xs : List ℕ) where
+  -- `write_round`: an entry more is written, and then all are
+  pub ups_on : (l : List ℕ) (r k x v : ℕ) (whole : List ℕ) → k < r → k < length l → v ≡ next_up xs x → take k l ++ next_ups (r - k) xs x ≡ whole
+      → take (k + 1) (set l k v) ++ next_ups (r - (k + 1)) xs v ≡ whole
+  ups_on l r k x v whole h i u e =
+      let d : r - k ≡ suc (r - (k + 1)) = omega arith in
+      rw (take_more_set l k v i, append_assoc, u) (rw d at e)
+
+  pub ups_done : (l : List ℕ) (r k x : ℕ) (whole : List ℕ) → r ≤ k → length l ≡ r → take k l ++ next_ups (r - k) xs x ≡ whole → l ≡ whole
+  ups_done l r k x whole h n e =
+      let d : r - k ≡ 0 = omega arith in
+      sym (take_all k l (omega arith)) ∙ sym (append-nil (take k l)) ∙ rw d at e
 
   -- what stands before the list
   abbrev front : ℕ → List ℕ
@@ -72,14 +78,19 @@ module _ (xs : List ℕ) where
   pub front_stored : (l : List ℕ) (x p : ℕ) → p ≡ next_down xs x → 4 ≤ length l → set (set (set (set l 0 x) 1 p) 2 0) 3 0 ≡ overlay (front x) l
   front_stored l x p e h = rw e (stored (front x) l h)
 
-  -- and the entries after them, and the step count
-  pub record_stored : (l m : List ℕ) (r x : ℕ) → m ≡ overlay (front x) l → record_size r ≤ length l → set (sets m 4 (next_ups r xs x)) (4 + r) 0 ≡ overlay (record_of (new_member r xs x)) l
-  record_stored l m r x e h =
+  -- and the entries y after them, and the step count
+  pub record_stored : (l m y : List ℕ) (r x : ℕ) → m ≡ overlay (front x) l → y ≡ next_ups r xs x → record_size r ≤ length l
+      → set (take 4 m ++ (y ++ drop (4 + r - 4) (drop 4 m))) (4 + r) 0 ≡ overlay (record_of (new_member r xs x)) l
+  record_stored l m y r x e f h =
       let g : m ≡ sets l 0 (front x) = e ∙ sym (stored (front x) l (omega arith)) in
       let ups : List ℕ = next_ups r xs x in
-      ap (λ (k : ℕ). set (sets m 4 ups) (4 + k) 0) (sym (next_ups_length r xs x)) ∙ sets_more m 4 ups 0
+      let n : length ups ≡ r = next_ups_length r xs x in
+      let z : 4 + r - 4 ≡ r = omega arith in
+      let long : length m ≡ length l = rw e (omega (arith, length-drop 4 l)) in
+      let s : take 4 m ++ (ups ++ drop (4 + r - 4) (drop 4 m)) ≡ sets m 4 ups = rw (z, drop-drop, sets-eq ups m 4 (omega arith), n, append_assoc) in
+      rw f (ap (λ (k : List ℕ). set k (4 + r) 0) s) ∙ ap (λ (k : ℕ). set (sets m 4 ups) (4 + k) 0) (sym n) ∙ sets_more m 4 ups 0
       ∙ ap (λ (k : List ℕ). sets k 4 (ups ++ (0 ∷ []))) g
-      ∙ stored (record_of (new_member r xs x)) l (omega (arith, record_length r (new_member r xs x) (next_ups_length r xs x)))
+      ∙ stored (record_of (new_member r xs x)) l (omega (arith, record_length r (new_member r xs x) n))
 
   -- `write_ahead`: eight entries y over the list of m, where none goes round the end
   pub eight_ahead : (l m y : List ℕ) (i : ℕ) → rising xs ≡ true → i + 8 < length xs → m ≡ overlay (front (get_or xs i 0)) l

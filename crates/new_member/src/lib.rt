@@ -25,12 +25,10 @@ pub fn write_round(part: &mut [u32], xs: &[u32], i: usize, r: usize)
     ensures { part.new ≡ overlay (record_of (new_member r xs.now (get_or xs.now i 0))) part.old }
 {
     write_front(part, xs, i);
-    let mut k: usize = 0;
     let mut j = i;
-    while k < r {
+    for entry in &mut part[words::LIST..words::LIST + r] {
         j = rising::place_above(xs, j);
-        part[words::LIST + k] = xs[j];
-        k += 1;
+        *entry = xs[j];
     }
     part[words::LIST + r] = 0;
 }

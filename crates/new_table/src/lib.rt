@@ -7,35 +7,25 @@ ghost use Rattle.model.specs.Table.{size, words_of};
 ghost use Rattle.model.specs.New.{new_table};
 ghost use Rattle.model.specs.Refusals.{new_refusal};
 ghost use Rattle.model.specs.Calls.{new_answer, new_words};
-ghost use Rattle.answers.specs.MemberCount.{answer_of};
+ghost use Rattle.answers.specs.Count.{answer_of};
+ghost use Rattle.answers.specs.Judged.{Judges};
 
-use answers::member_count::MemberCount;
+use answers::refusal::Refusal;
 
-// Why no new table can be made: 11 or 10, or 0.
-fn refusal(words: usize, r: u32, xs: &[u32]) -> u32
-    ensures { result ≡ new_refusal words r xs.now }
+// May a new table be made of so many words? Or 11 or 10.
+#[tactic(auto, using(std::proofs::lemmas::Bool::Decides::nat_tests, crate::proofs::Written::new_size), unfolding(model::specs::Refusals::new_refusal, model::specs::Refusals::no_new_table))]
+fn judge(words: usize, r: u32, xs: &[u32]) -> Result<(), Refusal>
+    ensures { Judges (new_refusal words r xs.now) tt result }
 {
-    let n = xs.len();
-    if r < 1 {
-        return 11;
-    }
-    if 8 < r {
-        return 11;
-    }
     let w = r as usize;
-    if n <= w {
-        return 11;
+    let n = xs.len();
+    if r < 1 || 8 < r || n <= w || 256 < n || !rising::is_rising(xs) {
+        return Err(Refusal::NoNewTable);
     }
-    if 256 < n {
-        return 11;
+    if words < words::offset(w, n) {
+        return Err(Refusal::TooShort);
     }
-    if rising::is_rising(xs) {
-        if words < words::offset(w, n) {
-            return 10;
-        }
-        return 0;
-    }
-    11
+    Ok(())
 }
 
 // The words of the new table, written; the words after them stay. The entries past r are written over by the next records.
@@ -47,27 +37,22 @@ fn write_table(t: &mut [u32], r: usize, xs: &[u32])
     t[words::R] = r as u32;
     t[words::COUNT] = n as u32;
     t[words::STEPS] = 0;
-    let mut i: usize = 0;
-    while i + 8 < n {
+    let ahead = n.saturating_sub(8);
+    for i in 0..ahead {
         let at = words::offset(r, i);
         new_member::write_ahead(&mut t[at..], xs, i, r);
-        i += 1;
     }
-    while i < n {
+    for i in ahead..n {
         let at = words::offset(r, i);
         new_member::write_round(&mut t[at..], xs, i, r);
-        i += 1;
     }
 }
 
 // The new table of r and rising identifiers: the member count, or 11 or 10 with the slice unchanged. The old words are never looked at.
-pub fn new(t: &mut [u32], r: u32, xs: &[u32]) -> MemberCount
+pub fn new(t: &mut [u32], r: u32, xs: &[u32]) -> Result<u32, Refusal>
     ensures { (answer_of result ≡ new_answer t.old r xs.now) × (t.new ≡ new_words t.old r xs.now) }
 {
-    let k = refusal(t.len(), r, xs);
-    if k != 0 {
-        return MemberCount::Declined(k);
-    }
+    judge(t.len(), r, xs)?;
     write_table(t, r as usize, xs);
-    MemberCount::Members(xs.len() as u32)
+    Ok(xs.len() as u32)
 }

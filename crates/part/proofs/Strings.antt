@@ -1,45 +1,20 @@
--- Strings from place i on: the first byte c, and whether two are equal. Assumes nothing.
-use Prim.Native.Nat.{ℕ, suc, ◌+◌, ◌≤◌, ◌<◌}
-use mathlib.Core.Path.{◌≡◌, refl, ap, ap₂}
-use mathlib.Core.Bool.{true, false, and-false}
-use mathlib.Core.List.{List, [], ◌∷◌}
-use native.Mathlib.Numerals.{add-one}
-use lib.ListN.{length, get_or, drop, drop_of_length-le}
-use lib.Seq.{drop-cons}
-use borrow.Author.Tests.{eq-eqb, ne_eqb}
-use Rattle.model.specs.Lists.{same}
+-- The first byte c. Assumes nothing.
+use Rattle.std.proofs.Common.{◌≡◌, ℕ, ◌≤◌, List, [], ◌∷◌, ◌==◌, length, take, position, unwrap_or, sym, ◌∙◌, refl, arith}
+use Rattle.std.proofs.lemmas.Grind.{common_steps}
+use Rattle.std.proofs.lemmas.List.{length-take-le}
 use Rattle.part.specs.Part.{reach}
 
--- the first byte c
-module _ (c : ℕ) (l : List ℕ) (i : ℕ) where
-  pub reach_here : i < length l → get_or l i 0 ≡ c → reach c (drop i l) ≡ 0
-  reach_here h e = rw (drop-cons l i 0 h, eq-eqb (get_or l i 0) c e)
+reach_within : (c : ℕ) (l : List ℕ) → reach c l ≤ length l
+reach_within c [] = omega arith
+reach_within c (b ∷ l) = grind (arith, reach_within c l)
 
-  pub reach_on : i < length l → (get_or l i 0 ≡ c → ⊥) → reach c (drop i l) ≡ suc (reach c (drop (i + 1) l))
-  reach_on h n = rw (add-one, drop-cons l i 0 h, ne_eqb (get_or l i 0) c n)
+reach_found : (c : ℕ) (l : List ℕ) → unwrap_or (position (λ b. b == c) l) (length l) ≡ reach c l
+reach_found c [] = refl
+reach_found c (b ∷ l) = grind (arith, common_steps, reach_found c l)
 
-  pub reach_end : length l ≤ i → reach c (drop i l) ≡ 0
-  reach_end h = rw (drop_of_length-le l {i = i} h)
-
--- two strings
-pub same_not : (a b : List ℕ) → (length a ≡ length b → ⊥) → false ≡ same a b
-same_not [] [] n = absurd (n refl)
-same_not [] (y ∷ b) n = refl
-same_not (x ∷ a) [] n = refl
-same_not (x ∷ a) (y ∷ b) n = go (same_not a b (λ e. n (ap suc e)))
-  where
-    go : false ≡ same a b → false ≡ same (x ∷ a) (y ∷ b)
-    go e = rw (← e, and-false)
-
-module _ (a b : List ℕ) (i : ℕ) (h : i < length a) (k : i < length b) where
-  both : same (drop i a) (drop i b) ≡ same (get_or a i 0 ∷ drop (suc i) a) (get_or b i 0 ∷ drop (suc i) b)
-  both = ap₂ same (drop-cons a i 0 h) (drop-cons b i 0 k)
-
-  pub same_on : get_or a i 0 ≡ get_or b i 0 → same (drop (i + 1) a) (drop (i + 1) b) ≡ same (drop i a) (drop i b)
-  same_on e = rw (both, eq-eqb (get_or a i 0) (get_or b i 0) e, add-one)
-
-  pub same_differ : (get_or a i 0 ≡ get_or b i 0 → ⊥) → false ≡ same (drop i a) (drop i b)
-  same_differ n = rw (both, ne_eqb (get_or a i 0) (get_or b i 0) n)
-
-pub same_end : (a b : List ℕ) (i : ℕ) → length a ≤ i → length b ≤ i → true ≡ same (drop i a) (drop i b)
-same_end a b i h k = rw (drop_of_length-le a {i = i} h, drop_of_length-le b {i = i} k)
+-- the place, or the length where there is none
+pub reached : (c : ℕ) (l : List ℕ) (r : ℕ) → r ≡ unwrap_or (position (λ b. b == c) l) (length l) → (r ≡ reach c l) × (r ≤ length l) × (r ≡ length (take r l))
+reached c l r e =
+    let h : r ≡ reach c l = e ∙ reach_found c l in
+    let w : r ≤ length l = rw h (reach_within c l) in
+    (h, w, sym (length-take-le r l w))

@@ -1,14 +1,16 @@
 -- Arrays with a number for each member: one more stored, and the members counted by their numbers. Assumes nothing.
 use Prim.Native.Nat.{ℕ, suc, ◌+◌, ◌≤◌, ◌<◌}
-use mathlib.Core.Path.{◌≡◌, refl, sym, ap, ◌∙◌}
+use mathlib.Core.Path.{◌≡◌, refl, sym, ap, ap₂, ◌∙◌}
 use mathlib.Core.List.{List, [], ◌∷◌}
-use mathlib.Core.Bool.{Bool, true, false}
+use mathlib.Core.Bool.{Bool, true, false, cond}
 use mathlib.Core.Logic.{◌⊎◌, inl, inr}
-use native.Mathlib.Numerals.{add-one}
 use native.Mathlib.Omega.{arith}
 use lib.Dec.{eqb}
-use lib.ListN.{length, get_or, take, drop, set, length-set, length-take, drop_of_length-le}
-use lib.Seq.{drop-cons, get_or-take, get_or-set_same, get_or-set_other}
+use lib.ListN.{length, get_or, take, set, length-set}
+use lib.Seq.{get_or-set_same, get_or-set_other}
+use Rattle.std.specs.Int.{from_bool}
+use Rattle.std.specs.List.{count_by}
+use Rattle.std.proofs.lemmas.List.Sums.{sum_by-cons}
 use Rattle.model.specs.Lists.{bit, count}
 use Rattle.model.specs.Table.{Member, ids}
 use Rattle.laws.specs.Order.{equal?}
@@ -22,12 +24,14 @@ stored_one h a k v l r e i b = go (equal? i k)
     go (inl q) = rw (q, get_or-set_same a k v 0 l) e
     go (inr q) = rw (get_or-set_other a k i v 0 q) (r i (omega arith))
 
--- the test b of one element counts
-pub counted_one : (g : ℕ → Bool) (l : List ℕ) (k c d : ℕ) (b : Bool) → k < length l → b ≡ g (get_or l k 0) → d ≡ c + bit b → d + count g (drop (k + 1) l) ≡ c + count g (drop k l)
-counted_one g l k c d b h t e = rw (add-one, drop-cons l k 0 h, ← t) (omega arith)
-
-pub counted_all : (g : ℕ → Bool) (l : List ℕ) (k : ℕ) → length l ≤ k → count g (drop k l) ≡ 0
-counted_all g l k h = rw (drop_of_length-le l {i = k} h)
+-- the library's count is the model's
+pub count_is : (f : ℕ → Bool) (l : List ℕ) → count_by f l ≡ count f l
+count_is f [] = refl
+count_is f (x ∷ l) = sum_by-cons (λ y. cond (f y) 1 0) x l ∙ ap₂ (λ a b. a + b) (one (f x)) (count_is f l)
+  where
+    one : (b : Bool) → cond b 1 0 ≡ bit b
+    one true = refl
+    one false = refl
 
 -- numbers that pass a test where the members do: as many
 count_pairs : (f h : ℕ → Bool) (l a : List ℕ) → length l ≤ length a → ((k : ℕ) → k < length l → f (get_or a k 0) ≡ h (get_or l k 0)) → count f (take (length l) a) ≡ count h l
@@ -52,15 +56,12 @@ module _ (ms : List Member) (g : ℕ → ℕ) where
       ap (λ (k : ℕ). count f (take k a)) (sym q) ∙
       count_pairs f h (ids ms) a (omega (arith, e.size)) (λ k l. rw (e.at k (omega arith)) (t (get_or (ids ms) k 0) (omega arith)))
 
+-- the library's conversion of a test is its bit
+pub bit_from : (b : Bool) → from_bool b ≡ bit b
+bit_from true = refl
+bit_from false = refl
+
 -- 1 tells yes
 pub bit_one : (b : Bool) → eqb 1 (bit b) ≡ b
 bit_one true = refl
 bit_one false = refl
-
--- `count_of`: the test b of one number counts
-module _ (f : ℕ → Bool) (a : List ℕ) (n : ℕ) (le : n ≤ length a) where
-  pub count_one : (k c d : ℕ) (b : Bool) → k < n → b ≡ f (get_or a k 0) → d ≡ c + bit b → d + count f (drop (k + 1) (take n a)) ≡ c + count f (drop k (take n a))
-  count_one k c d b h t e = counted_one f (take n a) k c d b (simp length-take (omega arith)) (rw (get_or-take n a k 0 h) t) e
-
-  pub count_end : (k : ℕ) → n ≤ k → count f (drop k (take n a)) ≡ 0
-  count_end k h = counted_all f (take n a) k (simp length-take (omega arith))

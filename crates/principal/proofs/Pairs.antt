@@ -1,7 +1,7 @@
 -- Pairs, lists and tables: what each iteration of the loops leaves to mark. Assumes nothing.
 use Prim.Native.Nat.{ℕ, suc, ◌+◌, ◌≤◌, ◌<◌}
 use mathlib.Core.Path.{◌≡◌, sym, ◌∙◌}
-use mathlib.Core.List.{List, [], ◌∷◌}
+use mathlib.Core.List.{List, []}
 use mathlib.Core.Bool.{true, false, ◌&&◌, ◌||◌, or-false, or_assoc, and-true, false≢true}
 use native.Mathlib.Numerals.{add-one}
 use native.Mathlib.Omega.{arith}
@@ -26,9 +26,8 @@ use Rattle.principal.specs.Marks.{covered, Marks, Skipped, principal_bit}
 use Rattle.principal.proofs.Reaches.{none_covered}
 
 -- a list that is over skips nothing more
-pub list_over : (a : List ℕ) (x q : ℕ) (p : List ℕ) (j : ℕ) → length p ≤ 0 → (covered a j || skips x q p) ≡ covered a j
-list_over a x q [] j h = or-false (covered a j)
-list_over a x q (b ∷ p) j h = absurd (omega arith)
+pub list_over : (a : List ℕ) (x q : ℕ) (p : List ℕ) (i j : ℕ) → length p ≤ i → (covered a j || skips x q (drop i p)) ≡ covered a j
+list_over a x q p i j h = rw (drop_of_length-le p {i = i} h) (or-false (covered a j))
 
 module _ (ws : List ℕ) where
   abbrev ms : List Member
@@ -85,10 +84,10 @@ module _ (ws : List ℕ) where
 
   -- one pair more
   module _ (a c : List ℕ) where
-    pub pair_marked : (q : ℕ) (p : List ℕ) → 0 < length p → Marks n (λ j. between q (id_at j) (get_or p 0 0)) a c → (j : ℕ) → j < n
-        → (covered c j || skips (id_at j) (get_or p 0 0) (drop 1 p)) ≡ (covered a j || skips (id_at j) q p)
-    pair_marked q [] h m j l = absurd (omega arith)
-    pair_marked q (b ∷ p) h m j l = rw (m.at j l) (or_assoc (covered a j) (between q (id_at j) b) (skips (id_at j) b p))
+    pub pair_marked : (q : ℕ) (p : List ℕ) (i : ℕ) → i < length p → Marks n (λ j. between q (id_at j) (get_or p i 0)) a c → (j : ℕ) → j < n
+        → (covered c j || skips (id_at j) (get_or p i 0) (drop (i + 1) p)) ≡ (covered a j || skips (id_at j) q (drop i p))
+    pair_marked q p i h m j l =
+        rw (add-one i, drop-cons p i 0 h, m.at j l) (or_assoc (covered a j) (between q (id_at j) (get_or p i 0)) (skips (id_at j) (get_or p i 0) (drop (suc i) p)))
 
     -- `mark_skipped`: one list more
     pub list_marked : (k : ℕ) → k < n → Marks n (λ j. skips (id_at j) (id_at k) (get_or ms k nobody).successors) a c → (j : ℕ) → j < n

@@ -1,5 +1,5 @@
 -- Reaches: a range marked, no range marked, and the marks read off by the largest reach so far. Assumes nothing.
-use Prim.Native.Nat.{ℕ, zero, suc, ◌+◌, ◌≤◌, ◌<◌}
+use Prim.Native.Nat.{ℕ, zero, suc, ◌+◌, ◌≤◌, ◌<◌, max}
 use mathlib.Core.Path.{◌≡◌, refl, sym, ◌∙◌}
 use mathlib.Core.List.{List, [], ◌∷◌}
 use mathlib.Core.Bool.{Bool, true, false, not, ◌&&◌, ◌||◌, and-false, or-false, or-true, or_assoc}
@@ -11,7 +11,6 @@ use borrow.Author.Tests.{lt-ltb, le-ltb, le-leb, lt-leb}
 use lib.Dec.{ltb, leb, leb-suc-suc}
 use lib.ListN.{length, get_or, take, set, replicate, length-set}
 use lib.Seq.{get_or-set_other}
-use Rattle.std.specs.Prelude.{if◌then◌else◌}
 use Rattle.model.specs.Lists.{any}
 use Rattle.laws.specs.Order.{less?}
 use Rattle.principal.specs.Marks.{covered, Marks}
@@ -89,18 +88,15 @@ one_more f [] k h = absurd (omega arith)
 one_more f (x ∷ a) zero h = or-false (f x)
 one_more f (x ∷ a) (suc k) h = rw (one_more f a k (le_of_suc-le-suc h)) (sym (or_assoc (f x) (any f (take k a)) (f (get_or a k 0))))
 
-larger_either : (j a b : ℕ) → (ltb j a || ltb j b) ≡ ltb j (if ltb a b then b else a)
-larger_either j a b = go (less? a b) (less? j a) (less? j b)
+larger_either : (j a b : ℕ) → (ltb j a || ltb j b) ≡ ltb j (max a b)
+larger_either j a b = go (less? j a) (less? j b)
   where
-    go : (a < b) ⊎ (b ≤ a) → (j < a) ⊎ (a ≤ j) → (j < b) ⊎ (b ≤ j) → (ltb j a || ltb j b) ≡ ltb j (if ltb a b then b else a)
-    go (inl u) (inl v) (inl w) = rw (lt-ltb a b u, lt-ltb j a v, lt-ltb j b w)
-    go (inl u) (inl v) (inr w) = absurd (omega arith)
-    go (inl u) (inr v) w = rw (lt-ltb a b u, le-ltb j a v)
-    go (inr u) (inl v) w = rw (le-ltb a b u, lt-ltb j a v)
-    go (inr u) (inr v) (inl w) = absurd (omega arith)
-    go (inr u) (inr v) (inr w) = rw (le-ltb a b u, le-ltb j a v, le-ltb j b w)
+    go : (j < a) ⊎ (a ≤ j) → (j < b) ⊎ (b ≤ j) → (ltb j a || ltb j b) ≡ ltb j (max a b)
+    go (inl v) w = rw (lt-ltb j a v, lt-ltb j (max a b) (omega arith))
+    go (inr v) (inl w) = rw (le-ltb j a v, lt-ltb j b w, lt-ltb j (max a b) (omega arith))
+    go (inr v) (inr w) = rw (le-ltb j a v, le-ltb j b w, le-ltb j (max a b) (omega arith))
 
-pub top_more : (a : List ℕ) (k top next : ℕ) → k < length a → Top a k top → next ≡ (if ltb top (get_or a k 0) then get_or a k 0 else top) → Top a (k + 1) next
+pub top_more : (a : List ℕ) (k top next : ℕ) → k < length a → Top a k top → next ≡ max top (get_or a k 0) → Top a (k + 1) next
 top_more a k top next h t e j = rw (add-one k, one_more (ltb j) a k h, t j, e) (larger_either j top (get_or a k 0))
 
 -- and so of the next place

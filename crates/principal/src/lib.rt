@@ -3,7 +3,7 @@
 // For the crates above, which hand over a well-formed table.
 #![tactic(auto)]
 
-ghost use Rattle.std.specs.Prelude.{◌≡◌, ◌&&◌, suc, ◌≤◌, ◌<◌, leb, ltb, length, get_or, replicate, if◌then◌else◌};
+ghost use Rattle.std.specs.Prelude.{◌≡◌, ◌&&◌, suc, ◌≤◌, ◌<◌, leb, ltb, length, get_or, replicate};
 ghost use Rattle.model.specs.Identifier.{between};
 ghost use Rattle.model.specs.Table.{members_in, ids};
 ghost use Rattle.model.specs.Ring.{nobody, skips, principals};
@@ -67,16 +67,13 @@ fn mark_list(t: &[u32], reach: &mut [u16; 256], k: usize)
     let at = words::offset(r, k);
     let from = at + words::LIST;
     let end = from + r;
-    let mut p = &t[from..end];
     let mut q = t[at];
     let mut lo = k + 1;
-    while 0 < p.len() {
-        let b = p[0];
+    for &b in &t[from..end] {
         let hi = table::rank_from(t, lo, b);
         mark_pair(t, reach, q, lo, b, hi);
         lo = rank_past(t, hi, b);
         q = b;
-        p = &p[1..];
     }
 }
 
@@ -87,18 +84,9 @@ fn mark_skipped(t: &[u32], reach: &mut [u16; 256])
     ensures { (length reach.new ≡ 256) × Skipped t.now reach.new }
 {
     let n = t[words::COUNT] as usize;
-    let mut k = 0;
-    while k < n {
+    for k in 0..n {
         mark_list(t, reach, k);
-        k += 1;
     }
-}
-
-// The larger of two.
-fn larger(a: u16, b: u16) -> u16
-    ensures { result ≡ (if ltb a b then b else a) }
-{
-    if a < b { b } else { a }
 }
 
 // By place: 1 for a principal, else 0. Each number takes the place of the reach that was read there.
@@ -110,11 +98,9 @@ pub fn principal_bits(t: &[u32]) -> [u16; 256]
     let mut a = [0u16; 256];
     mark_skipped(t, &mut a);
     let mut top: u16 = 0;
-    let mut k = 0;
-    while k < n {
-        top = larger(top, a[k]);
-        a[k] = places::bit(top <= k as u16);
-        k += 1;
+    for k in 0..n {
+        top = top.max(a[k]);
+        a[k] = u16::from(top <= k as u16);
     }
     a
 }

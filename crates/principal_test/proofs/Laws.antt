@@ -6,8 +6,8 @@ use mathlib.Core.List.{List, [], ◌∷◌, ◌++◌}
 use native.Mathlib.Nat.{le_of_suc-le-suc}
 use native.Mathlib.Numerals.{add-one}
 use native.Mathlib.Omega.{arith}
-use lib.ListN.{length, get_or, drop, length-take, length-drop, drop_of_length-le}
-use lib.Seq.{drop-cons, get_or-take, get_or-drop}
+use lib.ListN.{length, get_or, take, drop, length-take, length-drop, drop_of_length-le}
+use lib.Seq.{drop-cons}
 use Rattle.std.specs.Prelude.{if◌then◌else◌}
 use Rattle.model.specs.Lists.{any, bit}
 use Rattle.model.specs.Identifier.{between}
@@ -65,11 +65,16 @@ module _ (ws : List ℕ) (f : FormedWords ws) (k at : ℕ) (h : k < get_or ws 1 
   list_length : length list ≡ get_or ws 0 0
   list_length = rw (← list_at ws k at h e) (simp (length-take, length-drop) (omega (arith, record_fits ws k at h e f)))
 
+  -- the part with its entries
+  abbrev part : List ℕ
+  part = take (at + 4 + get_or ws 0 0 - (at + 4)) (drop (at + 4) ws)
+
   -- entry i, and those after it
-  list_from : (i : ℕ) → i < get_or ws 0 0 → drop i list ≡ get_or ws (at + 4 + i) 0 ∷ drop (suc i) list
-  list_from i l =
-      let v : get_or list i 0 ≡ get_or ws (at + 4 + i) 0 = rw (← list_at ws k at h e) (get_or-take (at + 4 + get_or ws 0 0 - (at + 4)) (drop (at + 4) ws) i 0 (omega arith) ∙ get_or-drop (at + 4) ws i 0) in
-      rw (drop-cons list i 0 (omega (arith, list_length)), v)
+  list_from : (i : ℕ) → i < get_or ws 0 0 → drop i list ≡ get_or part i 0 ∷ drop (suc i) list
+  list_from i l = rw (list_at ws k at h e) (drop-cons list i 0 (omega (arith, list_length)))
+
+  pub part_length : length part ≡ get_or ws 0 0
+  part_length = ap length (list_at ws k at h e) ∙ list_length
 
   module _ (x : ℕ) where
     pub count_none : Counted ws k x (get_or ws at 0) 0
@@ -77,13 +82,12 @@ module _ (ws : List ℕ) (f : FormedWords ws) (k at : ℕ) (h : k < get_or ws 1 
 
     module _ (a i : ℕ) (c : Counted ws k x a i) where
       -- the next pair skips x, or not
-      pub count_here : i < get_or ws 0 0 → between a x (get_or ws (at + 4 + i) 0) ≡ true → i ≡ spared x (neighbours (get_or (ids (members_in ws)) k 0) list)
+      pub count_here : i < get_or ws 0 0 → between a x (get_or part i 0) ≡ true → i ≡ spared x (neighbours (get_or (ids (members_in ws)) k 0) list)
       count_here l b = let z : i ≡ i + 0 = omega arith in z ∙ (rw (list_from i l, b) at c)
 
-      pub count_on : i < get_or ws 0 0 → between a x (get_or ws (at + 4 + i) 0) ≡ false → Counted ws k x (get_or ws (at + 4 + i) 0) (i + 1)
-      count_on l b = let z : i + 1 + spared x (neighbours (get_or ws (at + 4 + i) 0) (drop (suc i) list))
-          ≡ i + suc (spared x (neighbours (get_or ws (at + 4 + i) 0) (drop (suc i) list))) =
-          omega arith in rw (add-one i) (rw (add-one i) at z ∙ (rw (list_from i l, b) at c))
+      pub count_on : i < get_or ws 0 0 → between a x (get_or part i 0) ≡ false → Counted ws k x (get_or part i 0) (i + 1)
+      count_on l b = let z : i + 1 + spared x (neighbours (get_or part i 0) (drop (suc i) list)) ≡ i + suc (spared x (neighbours (get_or part i 0) (drop (suc i) list))) = omega arith in
+          rw (add-one i) (rw (add-one i) at z ∙ (rw (list_from i l, b) at c))
 
       -- there is none
       pub count_all : i ≤ get_or ws 0 0 → get_or ws 0 0 ≤ i → get_or ws 0 0 ≡ spared x (neighbours (get_or (ids (members_in ws)) k 0) list)

@@ -4,15 +4,14 @@
 ghost use Rattle.std.specs.Prelude.{◌≡◌, ◌<◌, get_or};
 ghost use Rattle.model.specs.Table.{members_in, ids};
 ghost use Rattle.model.specs.Ring.{nobody};
-ghost use Rattle.model.specs.Answer.{accepted};
 ghost use Rattle.model.specs.Pairs.{neighbours, principal_reply};
 ghost use Rattle.model.specs.Calls.{principal_answer};
 ghost use Rattle.table.specs.FormedWords.{FormedWords};
-ghost use Rattle.answers.specs.Tested.{answer_of};
+ghost use Rattle.answers.specs.Tested.{answer_of, values_of};
 ghost use Rattle.principal_test.specs.Spared.{spared};
 
+use answers::refusal::Refusal;
 use answers::tested::Tested;
-use standing::Standing;
 
 // How many pairs of the extended list of the member at place k come before the first that skips x: all r if none does.
 fn pairs_before(t: &[u32], k: usize, x: u32) -> usize
@@ -24,14 +23,11 @@ fn pairs_before(t: &[u32], k: usize, x: u32) -> usize
     let at = words::offset(r, k);
     let from = at + words::LIST;
     let mut a = t[at];
-    let mut i = 0;
-    while i < r {
-        let b = t[from + i];
+    for (i, &b) in t[from..from + r].iter().enumerate() {
         if ident::between(a, x, b) {
             return i;
         }
         a = b;
-        i += 1;
     }
     r
 }
@@ -39,30 +35,31 @@ fn pairs_before(t: &[u32], k: usize, x: u32) -> usize
 // The test of x on a well-formed table, whether or not x is a member.
 fn test_pairs(t: &[u32], x: u32) -> Tested
     requires { FormedWords t.now }
-    ensures { answer_of result ≡ accepted (principal_reply (members_in t.now) x) }
+    ensures { values_of result ≡ principal_reply (members_in t.now) x }
 {
     let r = t[words::R] as usize;
     let n = t[words::COUNT] as usize;
-    let mut taken: usize = 0;
-    let mut left = n;
-    while 0 < left {
-        let place = n - left;
-        let before = pairs_before(t, place, x);
+    let mut taken = 0;
+    for k in 0..n {
+        let before = pairs_before(t, k, x);
         if before < r {
-            return Tested::Skipped((taken + before + 1) as u32);
+            return Tested {
+                principal: false,
+                pairs: (taken + before + 1) as u32,
+            };
         }
         taken += r;
-        left -= 1;
     }
-    Tested::Principal(taken as u32)
+    Tested {
+        principal: true,
+        pairs: taken as u32,
+    }
 }
 
 // Is the member n a principal, and how many pairs did it take to tell: or 1 or 3.
-pub fn principal_test(t: &[u32], n: u32) -> Tested
+pub fn principal_test(t: &[u32], n: u32) -> Result<Tested, Refusal>
     ensures { answer_of result ≡ principal_answer t.now n }
 {
-    match standing::standing_of(t, n) {
-        Standing::At(_) => test_pairs(t, n),
-        Standing::Declined(c) => Tested::Declined(c),
-    }
+    standing::standing_of(t, n)?;
+    Ok(test_pairs(t, n))
 }

@@ -1,13 +1,17 @@
 -- Bytes written one after the other. Assumes nothing.
 use Prim.Native.Nat.{ℕ, suc, ◌+◌, ◌≤◌, ◌<◌}
-use mathlib.Core.Path.{◌≡◌, refl, sym, ◌∙◌}
-use mathlib.Core.List.{List, [], ◌∷◌, ◌++◌}
+use mathlib.Core.Path.{◌≡◌, refl, sym, ap, ◌∙◌}
+use mathlib.Core.List.{List, [], ◌∷◌, ◌++◌, append_assoc, append-nil}
 use native.Mathlib.Numerals.{add-one}
 use native.Mathlib.Omega.{arith}
-use lib.ListN.{length, get_or, drop, set, length-append, drop_of_length-le}
-use lib.Seq.{sets, length-sets, drop-cons}
+use lib.ListN.{length, get_or, take, drop, set, length-append, take-append-drop}
+use lib.Seq.{sets, length-sets, drop-cons, take-suc}
+use borrow.Rule.Slice.PartMut.{put_mid}
+use Rattle.std.proofs.lemmas.List.Edits.{paste_all, sets-eq}
+use Rattle.std.proofs.lemmas.Slice.{put_mid-paste}
 use Rattle.script.specs.Text.{digits, numbers_text}
-use Rattle.put.specs.Wrote.{Wrote}
+use Rattle.put.specs.Wrote.{Room, Wrote}
+use Rattle.put.specs.declared.Output.{Output}
 
 -- stores of two runs are those of the joined run
 pub sets_append : (a b o : List ℕ) (at : ℕ) → sets o at (a ++ b) ≡ sets (sets o at a) (at + length a) b
@@ -15,61 +19,65 @@ sets_append [] b o at = let z : at + 0 ≡ at = omega arith in rw z
 sets_append (x ∷ a) b o at = let z : at + suc (length a) ≡ suc at + length a = omega arith in rw z (sets_append a b (set o at x) (suc at))
 
 -- two runs, one after the other
-module _ {a b o m e : List ℕ} {at i j : ℕ} where
-  pub wrote_then : Wrote a at o i m → Wrote b i m j e → Wrote (a ++ b) at o j e
+module _ {a b : List ℕ} {o m n : Output} where
+  pub wrote_then : Wrote a o m → Wrote b m n → Wrote (a ++ b) o n
   wrote_then p q = record {
     place = rw (length-append a b) (omega (arith, p.place, q.place));
-    bytes = q.bytes ∙ rw (p.bytes, p.place) (sym (sets_append a b o at));
+    bytes = q.bytes ∙ rw (p.bytes, p.place) (sym (sets_append a b o.bytes.now o.at));
+    lent = q.lent ∙ p.lent;
   }
 
 -- room for the second after the first
-pub room_then : (a b o m : List ℕ) (at i : ℕ) → at + length (a ++ b) ≤ length o → Wrote a at o i m → i + length b ≤ length m
-room_then a b o m at i h p = rw (p.bytes, length-sets o at a) (omega (arith, p.place, length-append a b))
+pub room_then : (a b : List ℕ) (o m : Output) → Room (a ++ b) o → Wrote a o m → Room b m
+room_then a b o m h p = rw (p.bytes, length-sets o.bytes.now o.at a) (omega (arith, p.place, length-append a b))
 
 -- room for the first
-pub room_first : (a b : List ℕ) (at n : ℕ) → at + length (a ++ b) ≤ n → at + length a ≤ n
-room_first a b at n h = omega (arith, length-append a b)
+pub room_first : (a b : List ℕ) (o : Output) → Room (a ++ b) o → Room a o
+room_first a b o h = omega (arith, length-append a b)
 
 -- equal texts take the same room, and are written alike
-pub room_same : {a b : List ℕ} (at n : ℕ) → a ≡ b → at + length b ≤ n → at + length a ≤ n
-room_same at n e h = rw e h
+pub room_same : {a b : List ℕ} (o : Output) → a ≡ b → Room b o → Room a o
+room_same o e h = rw e h
 
-pub wrote_same : {a b o m : List ℕ} {at i : ℕ} → a ≡ b → Wrote a at o i m → Wrote b at o i m
+pub wrote_same : {a b : List ℕ} {o n : Output} → a ≡ b → Wrote a o n → Wrote b o n
 wrote_same e w = rw (← e) w
 
 -- nothing
-pub wrote_none : (o : List ℕ) (at : ℕ) → Wrote [] at o at o
-wrote_none o at = record { place = omega arith; bytes = refl }
+pub wrote_none : (o : Output) → Wrote [] o o
+wrote_none o = record { place = omega arith; bytes = refl; lent = refl }
 
--- byte by byte, from place i of s on
-module _ (s o : List ℕ) (at i : ℕ) where
-  pub put_on : i < length s → sets (set o (at + i) (get_or s i 0)) (at + (i + 1)) (drop (i + 1) s) ≡ sets o (at + i) (drop i s)
-  put_on h = let z : at + (i + 1) ≡ suc (at + i) = omega arith in rw (z, add-one, drop-cons s i 0 h)
+-- a run stored over the part of o that it takes
+pub put_run : (s o ys : List ℕ) (at k : ℕ) → at + length s ≤ length o → ys ≡ s → k ≡ length s → put_mid at k o ys ≡ sets o at s
+put_run s o ys at k h e f =
+    put_mid-paste at k o ys s (length s) e (sym f) refl ∙ paste_all o at s (length s) refl ∙ sym (sets-eq s o at h ∙ append_assoc (take at o) s (drop (at + length s) o))
 
-  pub put_end : length s ≤ i → sets o (at + i) (drop i s) ≡ o
-  put_end h = rw (drop_of_length-le s {i = i} h)
+-- number by number: those before place i of vs, that one, and the rest
+numbers_append : (xs ys : List ℕ) → numbers_text (xs ++ ys) ≡ numbers_text xs ++ numbers_text ys
+numbers_append [] ys = refl
+numbers_append (x ∷ xs) ys = ap (λ z. 32 ∷ digits x ++ z) (numbers_append xs ys) ∙ ap (λ z. 32 ∷ z) (sym (append_assoc (digits x) (numbers_text xs) (numbers_text ys)))
 
--- number by number, from place i of vs on
-module _ (vs : List ℕ) (i : ℕ) (h : i < length vs) where
+-- the next of them, where those before it are written
+module _ (vs : List ℕ) (i : ℕ) (h : i < length vs) (o m : Output) (w : Wrote (numbers_text (take i vs)) o m) where
   abbrev text : List ℕ
   text = digits (get_or vs i 0)
 
   abbrev rest : List ℕ
-  rest = numbers_text (drop (i + 1) vs)
+  rest = numbers_text (drop (suc i) vs)
 
-  ahead : numbers_text (drop i vs) ≡ 32 ∷ text ++ rest
-  ahead = rw (add-one, drop-cons vs i 0 h)
+  parts : numbers_text vs ≡ numbers_text (take i vs) ++ ((32 ∷ []) ++ (text ++ rest))
+  parts = ap numbers_text (sym (take-append-drop i vs)) ∙ numbers_append (take i vs) (drop i vs) ∙ ap (λ z. numbers_text (take i vs) ++ numbers_text z) (drop-cons vs i 0 h)
 
-  ahead_length : length (numbers_text (drop i vs)) ≡ suc (length text + length rest)
-  ahead_length = rw ahead (omega (arith, length-append text rest))
+  ahead : Room (numbers_text vs) o → Room ((32 ∷ []) ++ (text ++ rest)) m
+  ahead r = room_then (numbers_text (take i vs)) ((32 ∷ []) ++ (text ++ rest)) o m (rw (← parts) r) w
 
-  pub number_room : (o : List ℕ) (k : ℕ) → k + length (numbers_text (drop i vs)) ≤ length o → (k < length o) × (k + 1 + length text ≤ length o)
-  number_room o k l = (omega (arith, ahead_length), omega (arith, ahead_length))
+  pub space_room : Room (numbers_text vs) o → Room (32 ∷ []) m
+  space_room r = room_first (32 ∷ []) (text ++ rest) m (ahead r)
 
-  pub number_on : (o e : List ℕ) (k r : ℕ) → Wrote text (k + 1) (set o k 32) r e → (r + length rest ≡ k + length (numbers_text (drop i vs))) × (sets e r rest ≡ sets o k (numbers_text (drop i vs)))
-  number_on o e k r w =
-      let z : k + 1 ≡ suc k = omega arith in
-      (omega (arith, w.place, ahead_length), rw (w.bytes, w.place, ahead, z) (sym (sets_append text rest (set o k 32) (suc k))))
+  pub number_room : (n : Output) → Room (numbers_text vs) o → Wrote (32 ∷ []) m n → Room text n
+  number_room n r s = room_first text rest n (room_then (32 ∷ []) (text ++ rest) m n (ahead r) s)
 
-pub number_end : (vs : List ℕ) (i : ℕ) → length vs ≤ i → numbers_text (drop i vs) ≡ []
-number_end vs i h = rw (drop_of_length-le vs {i = i} h)
+  upto : numbers_text (take i vs) ++ ((32 ∷ []) ++ text) ≡ numbers_text (take (i + 1) vs)
+  upto = rw (add-one, take-suc vs i 0 h, numbers_append (take i vs) (get_or vs i 0 ∷ []), append-nil)
+
+  pub number_on : (n e : Output) → Wrote (32 ∷ []) m n → Wrote text n e → Wrote (numbers_text (take (i + 1) vs)) o e
+  number_on n e s d = wrote_same upto (wrote_then w (wrote_then s d))

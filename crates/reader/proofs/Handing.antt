@@ -7,7 +7,7 @@ use borrow.Author.Tests.{leb-true, le-leb, eqb-true}
 use Rattle.model.specs.Answer.{declined}
 use Rattle.model.specs.Image.{Due, field_head, number_at, due, field_stands, field_answer, field_at}
 use Rattle.laws.specs.Lists.{and-true}
-use Rattle.reader.specs.Read.{next_of, part_of, contents_of}
+use Rattle.reader.specs.Read.{part_of, contents_of}
 use Rattle.reader.specs.Contents.{Handed, NotHanded, FieldContents}
 
 module _ (bs : List ℕ) (at : ℕ) where

@@ -1,10 +1,17 @@
 -- What the answer of a reader says of the image: where the reader stands afterwards, and the part that is the contents of a field.
-use Rattle.std.specs.Prelude.{ℕ, ◌+◌, List, [], leb, length, get_or, take, drop, if◌then◌else◌}
-use Rattle.model.specs.Answer.{Answer}
+use Rattle.std.specs.Prelude.{ℕ, ◌+◌, List, [], leb, length, get_or, take, drop, Option, Some, None, if◌then◌else◌}
+use Rattle.model.specs.Answer.{Answer, accepted, declined}
 use Rattle.model.specs.Image.{field_at}
+use Rattle.answers.specs.Field.{values_of}
+use Rattle.answers.specs.declared.field.Field.{Field}
 use Rattle.reader.specs.declared.Reader.{Reader}
 
 -- a field's answer has four values: tag, start and length of its contents, next position. A declined one has none
+
+-- the answer that a field is, or that none is
+abbrev pub told : Option Field → Answer
+told (Some f) = accepted (values_of f)
+told None = declined 9
 
 -- where a reader stands after an answer at a position: at the field's next position, or where it was
 abbrev pub next_of : Answer → ℕ → ℕ

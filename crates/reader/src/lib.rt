@@ -5,9 +5,10 @@
 ghost use Rattle.std.specs.Prelude.{◌≡◌};
 ghost use Rattle.model.specs.Image.{field_at};
 ghost use Rattle.answers.specs.Field.{answer_of};
-ghost use Rattle.reader.specs.Read.{next_of, part_of, contents_of, advanced};
+ghost use Rattle.reader.specs.Read.{told, next_of, part_of, contents_of, advanced};
 
 use answers::field::Field;
+use answers::refusal::Refusal;
 
 // The image, and the position of the field that is next.
 #[derive(Drop)]
@@ -16,13 +17,13 @@ pub struct Reader<'a> {
     pub at: usize,
 }
 
-// Where the reader stands after an answer at a position: past the field, or where it was.
-pub fn next_of(f: Field, at: usize) -> usize
-    ensures { result ≡ next_of (answer_of f) at }
+// Where the reader stands after a field at a position, or none: past the field, or where it was.
+pub fn next_of(f: Option<Field>, at: usize) -> usize
+    ensures { result ≡ next_of (told f) at }
 {
     match f {
-        Field::At(_, _, _, next) => next as usize,
-        Field::Declined(_) => at,
+        Some(field) => field.next as usize,
+        None => at,
     }
 }
 
@@ -38,13 +39,13 @@ fn part(image: &[u8], start: u32, size: u32) -> &[u8]
     &image[0..0]
 }
 
-// The part of an image that is the contents of a field, or the empty part where there is none within the image.
-pub fn part_of(image: &[u8], f: Field) -> &[u8]
-    ensures { result.now ≡ contents_of (answer_of f) image.now }
+// The part of an image that is the contents of a field, or the empty part where there is none, or none within the image.
+pub fn part_of(image: &[u8], f: Option<Field>) -> &[u8]
+    ensures { result.now ≡ contents_of (told f) image.now }
 {
     match f {
-        Field::At(_, start, size, _) => part(image, start, size),
-        Field::Declined(_) => part(image, 0, 0),
+        Some(field) => part(image, field.start, field.size),
+        None => part(image, 0, 0),
     }
 }
 
@@ -56,19 +57,18 @@ pub fn new<'a>(image: &'a [u8]) -> Reader<'a>
 }
 
 // One field a call: the field at the reader's position, and the reader stands past it; or 9, and it stays.
-pub fn pull<'s, 'a>(r: &'s mut Reader<'a>) -> Field
+pub fn pull<'s, 'a>(r: &'s mut Reader<'a>) -> Result<Field, Refusal>
     ensures { (answer_of result ≡ field_at r.old.image.now r.old.at) × (r.new ≡ advanced r.old) }
 {
     let at = r.at;
     let f = due::field_at(r.image, at);
-    let to = next_of(f, at);
-    r.at = to;
+    r.at = next_of(f.ok(), at);
     f
 }
 
-// The part of the reader's image that is the contents of a field that it handed out.
-pub fn contents<'a>(r: Reader<'a>, f: Field) -> &'a [u8]
-    ensures { result.now ≡ contents_of (answer_of f) r.entry.image.now }
+// The part of the reader's image that is the contents of a field that it handed out, if it handed one out.
+pub fn contents<'a>(r: Reader<'a>, f: Option<Field>) -> &'a [u8]
+    ensures { result.now ≡ contents_of (told f) r.entry.image.now }
 {
     part_of(r.image, f)
 }

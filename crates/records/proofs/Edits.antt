@@ -4,19 +4,19 @@ use Prim.Native.Nat.{ℕ, suc, ◌+◌, ◌*◌, ◌-◌, ◌≤◌}
 use mathlib.Core.Path.{◌≡◌, refl, sym, ap, ap₂, ◌∙◌}
 use mathlib.Core.Bool.{true, false}
 use mathlib.Core.List.{List, [], ◌∷◌, ◌++◌, append_assoc, append-nil}
-use native.Mathlib.Nat.{suc-mul}
+use native.Mathlib.Nat.{suc-mul, mul-le-mul_right}
 use native.Mathlib.Omega.{arith}
 use lib.ListN.{length, get_or, take, drop, set, replicate, length-take, length-drop, length-append, length-replicate, take-append-drop}
 use lib.Seq.{drop-drop}
 use Rattle.model.specs.Lists.{overlay, rising}
-use Rattle.model.specs.Table.{Member, Table, header_size, header_of, record_size, record_of, members_in, records_of, table_of, words_of, ids}
+use Rattle.model.specs.Table.{Member, Table, header_size, header_of, record_size, size, record_of, members_in, records_of, table_of, words_of, ids}
 use Rattle.model.specs.Ring.{live}
 use Rattle.model.specs.Steps.{inserted, replaced, with_members, without}
 use Rattle.model.specs.Calls.{written, written_freed}
 use Rattle.laws.specs.Parts.{drop_take, part_from, tail_back}
 use Rattle.laws.specs.Words.{OwnHeader, record_length, members_length, records_written, header_take, header_counted, header_same}
 use Rattle.table.specs.Rank.{rank}
-use Rattle.table.proofs.Members.{span, ids_count, members_take, members_drop, records_append}
+use Rattle.table.proofs.Members.{span, ids_count, size_words, members_take, members_drop, records_append}
 use Rattle.table.proofs.Place.{At, Gap, rank_most, gap_at, within_count, replaced_at, without_at, inserted_at}
 
 join : (u v x y z : List ℕ) → ((u ++ (v ++ x)) ++ y) ++ z ≡ u ++ (v ++ (x ++ (y ++ z)))
@@ -89,6 +89,14 @@ written_exact T ws = ap (λ (x : List ℕ). overlay x ws) (append-nil (words_of 
 
 pub rank_within : (ws : List ℕ) (x k : ℕ) → k ≡ rank (ids (members_in ws)) x → k ≤ get_or ws 1 0
 rank_within ws x k e = omega (arith, e, rank_most (ids (members_in ws)) x, ids_count ws)
+
+-- the records from k on, and one more after them
+pub room : (ws : List ℕ) (at end k : ℕ) → k ≤ get_or ws 1 0 → size (table_of ws) + record_words ws ≤ length ws → at ≡ header_size + k * record_words ws
+    → end ≡ header_size + get_or ws 1 0 * record_words ws → (at ≤ end) × (end + record_words ws ≤ length ws)
+room ws at end k h f p q =
+    let l : k * record_words ws ≤ get_or ws 1 0 * record_words ws = mul-le-mul_right (record_words ws) h in
+    let z = size_words ws in
+    (omega arith, omega arith)
 
 pub gap_of : (ws : List ℕ) (x k : ℕ) → live (members_in ws) x ≡ false → k ≡ rank (ids (members_in ws)) x → Gap x (members_in ws) k
 gap_of ws x k l e = rw e (gap_at (members_in ws) x l)

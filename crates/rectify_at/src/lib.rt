@@ -4,11 +4,10 @@
 ghost use Rattle.std.specs.Prelude.{◌≡◌, ◌<◌, get_or};
 ghost use Rattle.model.specs.Table.{members_in, table_of, ids};
 ghost use Rattle.model.specs.Ring.{named, nobody};
-ghost use Rattle.model.specs.Answer.{accepted};
 ghost use Rattle.model.specs.Steps.{renews, rectify_reply, rectified};
 ghost use Rattle.model.specs.Calls.{written};
 ghost use Rattle.table.specs.FormedWords.{FormedWords};
-ghost use Rattle.answers.specs.Notice.{answer_of};
+ghost use Rattle.answers.specs.Notice.{values_of};
 
 use answers::notice::Notice;
 
@@ -20,31 +19,23 @@ fn renews_at(t: &[u32], k: usize, q: u32, alive: bool) -> bool
 {
     let old = table::word_at(t, k, words::PREDECESSOR);
     let n = table::word_at(t, k, words::ID);
-    if ident::between(old, q, n) {
-        return true;
-    }
-    if alive {
-        return false;
-    }
-    true
+    ident::between(old, q, n) || !alive
 }
 
 // The member at place k rectifies with a notice from q; a notice that changes nothing writes nothing.
 pub fn rectify_at(t: &mut [u32], k: usize, q: u32) -> Notice
     requires formed_words { FormedWords t.old }
     requires k_bound { k < get_or t.old 1 0 }
-    ensures { (answer_of result ≡ accepted (rectify_reply (members_in t.old) q
-        (named (members_in t.old) (get_or (ids (members_in t.old)) k 0))))
+    ensures { (values_of result ≡ rectify_reply (members_in t.old) q
+        (named (members_in t.old) (get_or (ids (members_in t.old)) k 0)))
         × (t.new ≡ written (rectified (get_or (ids (members_in t.old)) k 0) q (table_of t.old)) t.old) }
 {
     let p = table::word_at(t, k, words::PREDECESSOR);
-    let at = table::rank(t, p);
-    let alive = table::stands_at(t, at, p);
-    if renews_at(t, k, q, alive) {
-        let m = table::member_at(t, k);
-        let o = m.rectify(q, alive);
-        records::replace_at(t, k, o);
-        return Notice::New;
+    let alive = table::locate(t, p).is_ok();
+    if !renews_at(t, k, q, alive) {
+        return Notice::Same;
     }
-    Notice::Same
+    let m = table::member_at(t, k);
+    records::replace_at(t, k, m.rectify(q, alive));
+    Notice::New
 }

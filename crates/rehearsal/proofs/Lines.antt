@@ -1,19 +1,24 @@
 -- The lines of the input one after the other, and the bytes that count. Assumes nothing.
-use Prim.Native.Nat.{ℕ, suc, ◌+◌, ◌≤◌, ◌<◌}
+use Prim.Native.Nat.{ℕ, suc, ◌+◌, ◌≤◌, ◌<◌, min}
+use Rattle.std.proofs.lemmas.List.{take_min, drop-drop}
 use mathlib.Core.Path.{◌≡◌, refl, sym, ap, ◌∙◌}
 use mathlib.Core.Bool.{Bool, true, false}
 use mathlib.Core.List.{List, [], ◌∷◌}
 use native.Mathlib.Omega.{arith}
+use mathlib.Core.Logic.{◌⊎◌, inl, inr}
 use lib.Dec.{eqb}
-use lib.ListN.{length, take, drop, drop_of_length-le}
-use lib.Seq.{take_all, length-take-le}
+use denote.Ref.{Bor}
+use Rattle.std.specs.Prelude.{Option as Answer, Some, None, MatchOption, unwrap_or}
+use Rattle.std.specs.Str.{bytes_eq}
+use Rattle.std.proofs.lemmas.Bool.{eqb-true, true≢false}
+use lib.ListN.{length, take, drop}
+use lib.Seq.{length-take-le}
 use Rattle.std.specs.Prelude.{if◌then◌else◌}
 use Rattle.script.specs.Lines.{on_first, counted, lines}
 use Rattle.part.specs.Part.{reach}
-use Rattle.rehearsal.specs.Outcomes.{Passed}
 
 -- the first line, and those after its line feed
-first_line : (p : List ℕ) → 0 < length p → lines p ≡ take (reach 10 p) p ∷ lines (drop (suc (reach 10 p)) p)
+pub first_line : (p : List ℕ) → 0 < length p → lines p ≡ take (reach 10 p) p ∷ lines (drop (suc (reach 10 p)) p)
 first_line [] h = absurd (omega arith)
 first_line (b ∷ []) h = go (eqb b 10)
   where
@@ -28,28 +33,31 @@ first_line (b ∷ x ∷ l) h = go (eqb b 10) (first_line (x ∷ l) (omega arith)
     go true e = refl
     go false e = ap (on_first b) e
 
-module _ (p : List ℕ) (k : ℕ) (end : k ≡ reach 10 p) (some : 0 < length p) where
-  ahead : lines p ≡ take k p ∷ lines (drop (suc k) p)
-  ahead = rw end (first_line p some)
+-- a line feed stands there, or nothing
+at_feed : (p : List ℕ) → (drop (reach 10 p) p ≡ []) ⊎ (take 1 (drop (reach 10 p) p) ≡ 10 ∷ [])
+at_feed [] = inl refl
+at_feed (b ∷ l) = go (eqb b 10) refl (at_feed l)
+  where
+    go : (t : Bool) → eqb b 10 ≡ t → (drop (reach 10 l) l ≡ []) ⊎ (take 1 (drop (reach 10 l) l) ≡ 10 ∷ [])
+        → (drop (if t then 0 else suc (reach 10 l)) (b ∷ l) ≡ []) ⊎ (take 1 (drop (if t then 0 else suc (reach 10 l)) (b ∷ l)) ≡ 10 ∷ [])
+    go true e h = inr (ap (λ (x : ℕ). x ∷ []) (eqb-true b 10 e))
+    go false e h = h
 
-  -- a line feed ends it
-  pub passed_feed : k < length p → Passed p k (k + 1)
-  passed_feed h = record {
-    first = let z : k + 1 ≡ suc k = omega arith in rw z ahead;
-    within = omega arith;
-    some = omega arith;
-    ended = λ l. refl;
-  }
-
-  -- it is the last, and lacks one
-  pub passed_last : length p ≤ k → k ≤ length p → Passed p k k
-  passed_last h l = record {
-    first = let e : drop k p ≡ [] = drop_of_length-le p {i = k} h in let f : drop (suc k) p ≡ [] = drop_of_length-le p {i = suc k} (omega arith) in rw e ((rw f at ahead));
-    within = l;
-    some = omega arith;
-    ended = λ m. absurd (omega arith);
-  }
+-- what is left of the rest r of p without the line feed
+pub without_feed : (p : List ℕ) (k : ℕ) (r : Bor (List ℕ)) (o : Answer (Bor (List ℕ))) → k ≡ reach 10 p → r.now ≡ drop k p
+    → MatchOption o (bytes_eq (take 1 r.now) (10 ∷ []) ≡ false) (λ x. (bytes_eq (take 1 r.now) (10 ∷ []) ≡ true) × (x.now ≡ drop 1 r.now) × (length x.now + 1 ≡ length r.now))
+    → (unwrap_or o r).now ≡ drop (k + 1) p
+without_feed p k r None e f h =
+    let d : drop k p ≡ drop (reach 10 p) p = ap (λ (i : ℕ). drop i p) e in
+    elim (at_feed p) [
+      | inl z ↦ (let g : drop k p ≡ [] = d ∙ z in f ∙ g ∙ sym (ap (drop 1) g) ∙ drop-drop 1 k p)
+      | inr z ↦ (let g : take 1 r.now ≡ 10 ∷ [] = rw (f, d) z in let t : true ≡ false = rw g at h in absurd (true≢false t))
+    ]
+without_feed p k r (Some x) e f h = h.1 ∙ ap (drop 1) f ∙ drop-drop 1 k p
 
 -- the bytes that count
-pub counted_all : (s : List ℕ) → length s < 65536 → (length s ≡ length (take (length s) s)) × (take (length s) s ≡ counted s)
-counted_all s h = (sym (length-take-le (length s) s (omega arith)), take_all (length s) s (omega arith) ∙ sym (take_all 65536 s (omega arith)))
+pub counts : (s : List ℕ) (k : ℕ) → k ≡ min (length s) 65536 → (k ≤ length s) × (k ≤ 65536) × (k ≡ length (take k s)) × (take k s ≡ counted s)
+counts s k e =
+    let f : k ≡ min 65536 (length s) = omega arith in
+    let w : k ≤ length s = omega arith in
+    (w, omega arith, sym (length-take-le k s w), rw f (take_min 65536 s))

@@ -4,11 +4,12 @@
 ghost use Rattle.std.specs.Prelude.{◌≤◌, ◌<◌, length, take, IfOk};
 ghost use Rattle.std.specs.Io.KnownBytes.{Consumes, IsAtEnd};
 
-use rehearsal::Outcome;
+use rehearsal::TooShort;
 use std::io;
 use std::io::{Read, Write};
 
 // Reads until the buffer is full or the input ends: how many bytes stand at its front, which are those that the input gave.
+// The loop stays: it adds up what each `read` gives until the input ends, and `read_to_end` needs a heap.
 fn read_full<R: Read>(input: &mut R, buf: &mut [u8]) -> io::Result<usize>
     ensures within { IfOk result (λ n. n ≤ length buf.new) }
     ensures given { IfOk result (λ n. Consumes (R.remaining input.old) (R.remaining input.new) (take n buf.new)) }
@@ -32,7 +33,7 @@ fn main(rt: HostRuntime) -> io::Result<()> {
     table[words::R] = 1;
     let mut out = [0u8; 655370];
     match rehearsal::session(&input[..n], &mut table, &mut out) {
-        Outcome::Written(k) => io::writer(&rt).write_all(&out[..k]),
-        Outcome::TooShort => Ok(()),
+        Ok(k) => io::writer(&rt).write_all(&out[..k]),
+        Err(TooShort) => Ok(()),
     }
 }

@@ -28,10 +28,8 @@ fn doubled(a: &[u16; 256], n: usize) -> [u16; 256]
     ensures { Doubled n a.now result }
 {
     let mut d = [0u16; 256];
-    let mut k = 0;
-    while k < n {
-        d[k] = onward(a, n, a[k]);
-        k += 1;
+    for (k, &j) in a[..n].iter().enumerate() {
+        d[k] = onward(a, n, j);
     }
     d
 }
@@ -59,13 +57,10 @@ fn marks(a: &[u16; 256], n: usize) -> [u16; 256]
 {
     let none = n as u16;
     let mut m = [0u16; 256];
-    let mut k = 0;
-    while k < n {
-        let j = a[k];
+    for &j in &a[..n] {
         if j < none {
             m[j as usize] = 1;
         }
-        k += 1;
     }
     m
 }

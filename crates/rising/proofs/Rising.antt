@@ -1,38 +1,44 @@
--- Rising identifiers by place: what `is_rising` has left to look at. Assumes nothing.
-use Prim.Native.Nat.{ℕ, zero, suc, ◌+◌, ◌-◌, ◌≤◌, ◌<◌}
-use mathlib.Core.Path.{◌≡◌, refl}
-use mathlib.Core.Bool.{true, false}
-use mathlib.Core.List.{List, [], ◌∷◌}
-use native.Mathlib.Omega.{arith}
-use lib.ListN.{length, get_or, drop, length-drop}
-use lib.Seq.{drop-cons}
-use borrow.Author.Tests.{lt-ltb, le-ltb}
+-- What std's methods tell of identifiers: that neighbours rise, and where those at or below x end. Assumes nothing.
+use Rattle.std.proofs.Common.{◌≡◌, ℕ, zero, suc, ◌<◌, ◌≤◌, ◌⊎◌, Bool, true, false, ltb, leb, List, [], ◌∷◌, length, get_or, sym, refl, ◌∙◌, inl, inr, arith, add-one, ltb-true, ltb-false, lt-ltb}
+use Rattle.std.proofs.lemmas.List.{get_or_default}
+use Rattle.std.specs.List.{AllWithin, IsAllAdjacentAnswer}
+use Rattle.std.specs.List.Sorted.{IsPartitionedBy, IsPartitionPoint}
+use mathlib.Core.Bool.{and-false}
 use Rattle.model.specs.Lists.{rising}
+use Rattle.model.specs.Held.{keys_to}
+use Rattle.laws.specs.Order.{less?}
+use Rattle.laws.specs.Lists.{Rising, count_length}
+use Rattle.laws.specs.Keys.{key_below}
 
--- `is_rising` compares the identifier at place i with the one before it
-short_rising : (l : List ℕ) → length l ≤ 1 → true ≡ rising l
-short_rising [] h = refl
-short_rising (x ∷ []) h = refl
-short_rising (x ∷ y ∷ l) h = absurd (omega arith)
+all_rise : (xs : List ℕ) → ((k : ℕ) → suc k < length xs → true ≡ ltb (get_or xs k 0) (get_or xs (suc k) 0)) → true ≡ rising xs
+all_rise [] h = refl
+all_rise (x ∷ []) h = refl
+all_rise (x ∷ y ∷ l) h = rw (sym (h 0 (omega arith))) (all_rise (y ∷ l) (λ k i. h (suc k) (omega arith)))
 
-pub end_rising : (xs : List ℕ) (i : ℕ) → length xs ≤ i → true ≡ rising (drop (i - 1) xs)
-end_rising xs i h = short_rising (drop (i - 1) xs) (simp length-drop (omega arith))
+some_fall : (xs : List ℕ) (k : ℕ) → suc k < length xs → false ≡ ltb (get_or xs k 0) (get_or xs (suc k) 0) → false ≡ rising xs
+some_fall [] k i h = absurd (omega arith)
+some_fall (x ∷ []) k i h = absurd (omega arith)
+some_fall (x ∷ y ∷ l) zero i h = rw (sym h)
+some_fall (x ∷ y ∷ l) (suc k) i h = rw (sym (some_fall (y ∷ l) k (omega arith) h), and-false)
 
-two : (xs : List ℕ) (j : ℕ) → suc j < length xs → drop j xs ≡ get_or xs j 0 ∷ get_or xs (suc j) 0 ∷ drop (suc (suc j)) xs
-two xs j h = rw (drop-cons xs j 0 (omega arith), drop-cons xs (suc j) 0 h)
+pub adjacent_rise : (xs : List ℕ) (r : Bool) → IsAllAdjacentAnswer (λ x y b. b ≡ ltb x y) xs r → r ≡ rising xs
+adjacent_rise xs true h = all_rise xs (λ k i. rw add-one at (h k 0 (rw add-one i)))
+adjacent_rise xs false h = some_fall xs h.0 (rw add-one at h.1) (rw add-one at (h.2 0))
 
-module _ (xs : List ℕ) where
-  pub rises_on : (i : ℕ) → 1 ≤ i → i < length xs → get_or xs (i - 1) 0 < get_or xs i 0 → rising (drop (i + 1 - 1) xs) ≡ rising (drop (i - 1) xs)
-  rises_on zero a h l = absurd (omega arith)
-  rises_on (suc j) a h l =
-      let e : suc j - 1 ≡ j = omega arith in
-      let f : suc j + 1 - 1 ≡ suc j = omega arith in
-      let g : get_or xs j 0 < get_or xs (suc j) 0 = rw e at l in
-      rw (e, f, two xs j h, drop-cons xs (suc j) 0 h, lt-ltb (get_or xs j 0) (get_or xs (suc j) 0) g)
+module _ (ks : List ℕ) (x : ℕ) (a : Rising ks) where
+  below : (p d : ℕ) → p < length ks → leb (get_or ks p d) x ≡ ltb p (keys_to ks x)
+  below p d h = rw (get_or_default ks p d 0 h) (sym (key_below ks x p a h))
 
-  pub rises_not : (i : ℕ) → 1 ≤ i → i < length xs → get_or xs i 0 ≤ get_or xs (i - 1) 0 → false ≡ rising (drop (i - 1) xs)
-  rises_not zero a h l = absurd (omega arith)
-  rises_not (suc j) a h l =
-      let e : suc j - 1 ≡ j = omega arith in
-      let g : get_or xs (suc j) 0 ≤ get_or xs j 0 = rw e at l in
-      rw (e, two xs j h, le-ltb (get_or xs j 0) (get_or xs (suc j) 0) g)
+  pub keys_parted : IsPartitionedBy (λ k. leb k x) ks
+  keys_parted i j d h l e = below i d (omega arith) ∙ lt-ltb i _ (omega (arith, ltb-true j _ (sym (below j d l) ∙ e)))
+
+  up : (i : ℕ) → i ≤ length ks → AllWithin (λ k. leb k x ≡ true) ks 0 i → i ≤ keys_to ks x
+  up zero l h = omega arith
+  up (suc j) l h = let k = h j 0 (omega arith) (omega arith) in omega (arith, ltb-true j _ (sym (below j 0 l) ∙ k))
+
+  down : (i : ℕ) → AllWithin (λ k. leb k x ≡ false) ks i (length ks) → (i < length ks) ⊎ (length ks ≤ i) → keys_to ks x ≤ i
+  down i h (inl l) = ltb-false i _ (sym (below i 0 l) ∙ h i 0 (omega arith) l)
+  down i h (inr l) = omega (arith, count_length (λ k. leb k x) ks)
+
+  pub keys_end : (i : ℕ) → i ≤ length ks → IsPartitionPoint (λ k. leb k x ≡ true) (λ k. leb k x ≡ false) ks i → i ≡ keys_to ks x
+  keys_end i l h = omega (arith, up i l h.0, down i h.1 (less? i (length ks)))

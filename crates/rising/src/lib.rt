@@ -11,15 +11,7 @@ ghost use Rattle.model.specs.Held.{keys_to};
 pub fn is_rising(xs: &[u32]) -> bool
     ensures { result ≡ rising xs.now }
 {
-    let n = xs.len();
-    let mut i: usize = 1;
-    while i < n {
-        if xs[i] <= xs[i - 1] {
-            return false;
-        }
-        i += 1;
-    }
-    true
+    xs.is_sorted_by(|a, b| a < b)
 }
 
 // The place of the next identifier up from the one at place i, round the end.
@@ -50,15 +42,5 @@ pub fn keys_to(ks: &[u32], x: u32) -> usize
     requires { rising ks.now ≡ true }
     ensures { result ≡ keys_to ks.now x }
 {
-    let mut lo: usize = 0;
-    let mut hi = ks.len();
-    while lo < hi {
-        let mid = lo + (hi - lo) / 2;
-        if ks[mid] <= x {
-            lo = mid + 1;
-        } else {
-            hi = mid;
-        }
-    }
-    lo
+    ks.partition_point(|&k| k <= x)
 }

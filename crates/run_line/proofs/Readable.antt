@@ -34,7 +34,7 @@ same_length (x ∷ a) [] e = absurd (false≢true e)
 same_length (x ∷ a) (y ∷ b) e = ap suc (same_length a b (and-true (eqb x y) _ e).1)
 
 among_length : (ws : List Word) (p : List ℕ) (w : Word) → word_among ws p ≡ some w → length p ≡ length (letters w)
-among_length [] p w e = let z : ◌≡◌ {A = ℕ} 0 1 = cc in absurd (omega arith)
+among_length [] p w e = (cc)
 among_length (v ∷ ws) p w e = go (same p (letters v)) refl e (among_length ws p w)
   where
     go : (b : Bool) → same p (letters v) ≡ b → (if b then some v else word_among ws p) ≡ some w → (word_among ws p ≡ some w → length p ≡ length (letters w)) → length p ≡ length (letters w)
@@ -58,13 +58,13 @@ letters_least Audit n e = inl (omega arith)
 
 -- what a readable line is made of
 asks_made : (o : Option Word) (m : Option (List ℕ)) (w : Word) (ns : List ℕ) → asks o m ≡ Asks w ns → (o ≡ some w) × (m ≡ some ns) × (takes w (length ns) ≡ true)
-asks_made none m w ns e = let z : ◌≡◌ {A = ℕ} 0 1 = cc in absurd (omega arith)
-asks_made (some v) none w ns e = let z : ◌≡◌ {A = ℕ} 0 1 = cc in absurd (omega arith)
+asks_made none m w ns e = (cc)
+asks_made (some v) none w ns e = (cc)
 asks_made (some v) (some ms) w ns e = go (takes v (length ms)) refl e
   where
     go : (b : Bool) → takes v (length ms) ≡ b → (if b then Asks v ms else Unreadable) ≡ Asks w ns → (some v ≡ some w) × (some ms ≡ some ns) × (takes w (length ns) ≡ true)
     go true t f = let g : v ≡ w = cc in let h : ms ≡ ns = cc in (ap some g, ap some h, rw (← g, ← h, t))
-    go false t f = let z : ◌≡◌ {A = ℕ} 0 1 = cc in absurd (omega arith)
+    go false t f = (cc)
 
 number_least : (q : List ℕ) → is_number q ≡ true → 1 ≤ length q
 unfolding is_number
@@ -77,13 +77,13 @@ some_part (q ∷ qs) ns e h = go (is_number q) refl e
   where
     go : (b : Bool) → is_number q ≡ b → (if b && every is_number qs then some (map value (q ∷ qs)) else none) ≡ some ns → (p : List ℕ) × (ps : List (List ℕ)) × (q ∷ qs ≡ p ∷ ps) × (1 ≤ length p)
     go true t f = (q, qs, refl, number_least q t)
-    go false t f = let z : ◌≡◌ {A = ℕ} 0 1 = cc in absurd (omega arith)
+    go false t f = (cc)
 
 split_length : (k : ℕ) (l : List ℕ) → length (take k l) + length (drop k l) ≡ length l
 split_length k l = sym (length-append (take k l) (drop k l)) ∙ ap length (take-append-drop k l)
 
 part_long : (p q : List ℕ) (qs : List (List ℕ)) → following p ≡ q ∷ qs → suc (length q) ≤ length p
-part_long [] q qs e = let z : ◌≡◌ {A = ℕ} 0 1 = cc in absurd (omega arith)
+part_long [] q qs e = (cc)
 part_long (b ∷ l) q qs e =
     let f : take (reach 32 l) l ≡ q = cc (first_part l) in
     omega (arith, split_length (reach 32 l) l, ap length f)
@@ -152,7 +152,7 @@ pub asked_line : (n : ℕ) (ws l : List ℕ) (w : Word) (ys : List ℕ) → Asks
 asked_line n ws l w ys e = go (meaning l) refl e
   where
     go : (m : Meaning) → meaning l ≡ m → Asks w ys ≡ cut m → Asked n ws l w ys
-    go Unreadable i f = let z : ◌≡◌ {A = ℕ} 0 1 = cc in absurd (omega arith)
+    go Unreadable i f = (cc)
     go (Asks v ns) i f = let g : v ≡ w = cc in let h : ys ≡ firsts ns = cc in rw h (asked_firsts n ws l w ns (i ∙ ap (λ (u : Word). Asks u ns) g))
 
 -- an unreadable line
@@ -162,4 +162,4 @@ unread_line n ws l e = go (meaning l) refl e
   where
     go : (m : Meaning) → meaning l ≡ m → Unreadable ≡ cut m → (unread n ≡ line_text n ws (meaning l)) × (ws ≡ line_words ws (meaning l))
     go Unreadable i f = rw i (refl, refl)
-    go (Asks v ns) i f = let z : ◌≡◌ {A = ℕ} 0 1 = cc in absurd (omega arith)
+    go (Asks v ns) i f = (cc)

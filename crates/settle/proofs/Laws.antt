@@ -1,7 +1,7 @@
 -- Why a table gets no round, and rounds one after the other, each looked at before it, with a limit or at the minutes of a list. Assumes nothing.
 use Prim.Native.Nat.{ℕ, zero, suc, ◌+◌, ◌-◌, ◌≤◌, ◌<◌}
 use mathlib.Core.Path.{◌≡◌, refl, sym, ap, ◌∙◌}
-use mathlib.Core.Bool.{Bool, true, false}
+use mathlib.Core.Bool.{Bool, true, false, false≢true}
 use mathlib.Core.List.{List, [], ◌∷◌}
 use native.Mathlib.Omega.{arith}
 use lib.Dec.{ltb, eqb}
@@ -12,50 +12,60 @@ use Rattle.std.specs.Prelude.{if◌then◌else◌}
 use Rattle.model.specs.Lists.{every, rising}
 use Rattle.model.specs.Table.{Table, table_of, members_in, well_formed}
 use Rattle.model.specs.Ring.{sound, verdict, passed_by_all}
-use Rattle.model.specs.Answer.{Answer, declined, answer, afterwards}
 use Rattle.model.specs.Settle.{after_round, after_rounds, rounds_run, ran_reply}
 use Rattle.model.specs.Windows.{Window, is_open, of_week, rounds_at}
 use Rattle.model.specs.Refusals.{bad_windows, bad_minutes, settle_refusal, settle_at_refusal}
 use Rattle.model.specs.Calls.{written}
 use Rattle.laws.specs.Lists.{and-true, Above, Rising, rising_true}
-use Rattle.laws.specs.Accepted.{declined_answer, unchanged, settle_accepted}
+use Rattle.laws.specs.Accepted.{settle_accepted}
+use denote.Enum.Bare.{sameb}
+use Rattle.answers.specs.Verdict.{number_of}
+use Rattle.answers.specs.contracts.report.Verdict.{the_type}
+use Rattle.answers.specs.declared.report.Verdict.{Verdict}
+use Rattle.answers.specs.declared.report.Verdict.TheVariants.{NotSound, Sound, Ideal}
 use Rattle.theory.specs.Runs.{Good, good_kept}
 use Rattle.theory.specs.Turns.{round_lasts}
 use Rattle.turns.specs.Lasting.{Lasting}
 use Rattle.turns.proofs.Lasting.{lasting_none, Next, lasting_next}
-use Rattle.settle.specs.Begun.{Begins}
-use Rattle.settle.specs.declared.Begun.TheVariants.{Declined}
 
 -- The causes
 
 module _ (ws : List ℕ) where
-  pub no_table : well_formed ws ≡ false → Begins (settle_refusal ws) ws (Declined 1)
+  pub no_table : well_formed ws ≡ false → settle_refusal ws ≡ 1
   unfolding settle_refusal
-  no_table h = (rw h, λ z. omega (arith, z))
+  no_table h = rw h
 
-  pub not_sound : well_formed ws ≡ true → sound (table_of ws) ≡ false → Begins (settle_refusal ws) ws (Declined 14)
+  pub not_sound : well_formed ws ≡ true → sound (table_of ws) ≡ false → settle_refusal ws ≡ 14
   unfolding settle_refusal
-  not_sound h s = (rw (h, s), λ z. omega (arith, z))
+  not_sound h s = rw (h, s)
 
   module _ (vs ts : List ℕ) where
-    pub no_table_at : well_formed ws ≡ false → Begins (settle_at_refusal ws vs ts) ws (Declined 1)
+    pub no_table_at : well_formed ws ≡ false → settle_at_refusal ws vs ts ≡ 1
     unfolding settle_at_refusal
-    no_table_at h = (rw h, λ z. omega (arith, z))
+    no_table_at h = rw h
 
-    pub bad_windows_law : well_formed ws ≡ true → bad_windows vs ≡ true → Begins (settle_at_refusal ws vs ts) ws (Declined 15)
+    pub bad_windows_law : well_formed ws ≡ true → bad_windows vs ≡ true → settle_at_refusal ws vs ts ≡ 15
     unfolding settle_at_refusal
-    bad_windows_law h b = (rw (h, b), λ z. omega (arith, z))
+    bad_windows_law h b = rw (h, b)
 
-    pub bad_minutes_law : well_formed ws ≡ true → bad_windows vs ≡ false → bad_minutes ts ≡ true → Begins (settle_at_refusal ws vs ts) ws (Declined 16)
+    pub bad_minutes_law : well_formed ws ≡ true → bad_windows vs ≡ false → bad_minutes ts ≡ true → settle_at_refusal ws vs ts ≡ 16
     unfolding settle_at_refusal
-    bad_minutes_law h b m = (rw (h, b, m), λ z. omega (arith, z))
-
-  -- a call that is declined answers that number, and leaves the words as they were
-  pub declines : {k c : ℕ} → Begins k ws (Declined c) → (a : Answer) (new : List ℕ) → (declined c ≡ answer k a) × (ws ≡ afterwards k new ws)
-  declines {k} {c} b a new = (rw (← b.0) (declined_answer c a b.1), rw (← b.0) (unchanged c new ws b.1))
+    bad_minutes_law h b m = rw (h, b, m)
 
   pub granted : settle_refusal ws ≡ 0 → Good ws
   granted e = let a = settle_accepted ws e in record { is_well_formed = a.0; is_sound = a.1 }
+
+-- The verdict, asked for 2
+
+pub ideal_is_two : (v : Verdict) (b : Bool) → b ≡ sameb the_type v Ideal → b ≡ true → number_of v ≡ 2
+ideal_is_two NotSound b e h = absurd (false≢true (sym e ∙ h))
+ideal_is_two Sound b e h = absurd (false≢true (sym e ∙ h))
+ideal_is_two Ideal b e h = refl
+
+pub not_two : (v : Verdict) (b : Bool) → b ≡ sameb the_type v Ideal → b ≡ false → number_of v ≡ 2 → ⊥
+not_two NotSound b e h z = omega (arith, z)
+not_two Sound b e h z = omega (arith, z)
+not_two Ideal b e h z = false≢true (sym h ∙ e)
 
 -- Rounds
 

@@ -4,17 +4,15 @@
 ghost use Rattle.std.specs.Prelude.{◌≡◌, ◌<◌, get_or};
 ghost use Rattle.model.specs.Table.{members_in, table_of, ids};
 ghost use Rattle.model.specs.Ring.{named};
-ghost use Rattle.model.specs.Answer.{accepted};
 ghost use Rattle.model.specs.Steps.{stabilize_reply, stabilized};
 ghost use Rattle.model.specs.Calls.{written};
 ghost use Rattle.table.specs.FormedWords.{FormedWords};
 ghost use Rattle.table.specs.Located.{Stands};
-ghost use Rattle.answers.specs.Step.{answer_of};
+ghost use Rattle.answers.specs.Step.{values_of};
 ghost use Rattle.stabilize_at.specs.TakenStep.{Taken};
 
 use answers::step::Step;
 use member::Member;
-use table::Located;
 
 // One step of a member.
 #[derive(Clone, Copy)]
@@ -33,17 +31,16 @@ fn from_successor(t: &[u32], m: Member, k: usize) -> TakenStep
 {
     let h = m.successors[0];
     let s = table::member_at(t, k);
-    let l = s.successors;
     let c = s.predecessor;
-    let a = m.adopt(h, l);
+    let member = m.adopt(h, s.successors);
     if ident::between(m.id, c, h) {
         return TakenStep {
-            member: a.await_candidate(c),
+            member: member.await_candidate(c),
             reply: Step::Look(c),
         };
     }
     TakenStep {
-        member: a,
+        member,
         reply: Step::Done(h),
     }
 }
@@ -55,18 +52,15 @@ fn from_predecessor(t: &[u32], m: Member) -> TakenStep
     ensures { Taken t.now m result }
 {
     let c = m.candidate;
-    let Located::Here(k) = table::locate(t, c) else {
-        let h = m.successors[0];
+    let Ok(k) = table::locate(t, c) else {
         return TakenStep {
             member: m.clear_pending(),
-            reply: Step::Done(h),
+            reply: Step::Done(m.successors[0]),
         };
     };
     let s = table::member_at(t, k);
-    let l = s.successors;
-    let a = m.adopt(c, l);
     TakenStep {
-        member: a.clear_pending(),
+        member: m.adopt(c, s.successors).clear_pending(),
         reply: Step::Done(c),
     }
 }
@@ -80,7 +74,7 @@ fn take_step(t: &[u32], m: Member) -> TakenStep
         return from_predecessor(t, m);
     }
     let h = m.successors[0];
-    let Located::Here(k) = table::locate(t, h) else {
+    let Ok(k) = table::locate(t, h) else {
         let r = t[words::R] as usize;
         return TakenStep {
             member: m.drop_head(r),
@@ -94,14 +88,13 @@ fn take_step(t: &[u32], m: Member) -> TakenStep
 pub fn stabilize_at(t: &mut [u32], k: usize) -> Step
     requires formed_words { FormedWords t.old }
     requires k_bound { k < get_or t.old 1 0 }
-    ensures { (answer_of result ≡ accepted (stabilize_reply (members_in t.old)
-        (named (members_in t.old) (get_or (ids (members_in t.old)) k 0))))
+    ensures { (values_of result ≡ stabilize_reply (members_in t.old)
+        (named (members_in t.old) (get_or (ids (members_in t.old)) k 0)))
         × (t.new ≡ written (stabilized (get_or (ids (members_in t.old)) k 0) (table_of t.old)) t.old) }
 {
     let m = table::member_at(t, k);
-    let o = take_step(t, m);
-    let n = o.member;
-    let c = n.count_step();
-    records::replace_at(t, k, c);
-    o.reply
+    let step = take_step(t, m);
+    let n = step.member.count_step();
+    records::replace_at(t, k, n);
+    step.reply
 }

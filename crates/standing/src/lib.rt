@@ -1,29 +1,20 @@
 // What the calls of one member share: where it stands, or why the call is declined.
 #![tactic(auto)]
 
-ghost use Rattle.std.specs.Prelude.{◌≡◌};
-ghost use Rattle.standing.specs.Standing.{standing_of};
+ghost use Rattle.std.specs.Prelude.{length};
+ghost use Rattle.model.specs.Table.{members_in, ids};
+ghost use Rattle.model.specs.Refusals.{member_refusal};
+ghost use Rattle.table.specs.Rank.{rank};
+ghost use Rattle.answers.specs.Judged.{Judges};
 
-use table::Located;
+use answers::refusal::Refusal;
 
-// The member that a call is of.
-#[derive(Clone, Copy)]
-pub enum Standing {
-    // its place
-    At(usize),
-    // the number that declines the call
-    Declined(u32),
-}
-
-// Where the member n stands, or 1 or 3.
-pub fn standing_of(t: &[u32], n: u32) -> Standing
-    ensures { result ≡ standing_of t.now n }
+// Where the member n stands: at its rank; or 1 or 3.
+pub fn standing_of(t: &[u32], n: u32) -> Result<usize, Refusal>
+    ensures { Judges (member_refusal t.now n) (rank (ids (members_in t.now)) n) result }
 {
-    if table::well_formed(t) {
-        return match table::locate(t, n) {
-            Located::Here(k) => Standing::At(k),
-            Located::Missing(_) => Standing::Declined(3),
-        };
+    if !table::well_formed(t) {
+        return Err(Refusal::NotWellFormed);
     }
-    Standing::Declined(1)
+    table::locate(t, n).or(Err(Refusal::NotMember))
 }

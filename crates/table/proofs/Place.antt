@@ -2,14 +2,15 @@
 use Prim.Native.Nat.{ℕ, zero, suc, ◌≤◌, ◌<◌}
 use mathlib.Core.Path.{◌≡◌, refl, sym, ap, ◌∙◌}
 use mathlib.Core.List.{List, [], ◌∷◌, ◌++◌}
-use mathlib.Core.Bool.{Bool, true, false, ◌&&◌, ◌||◌, or-false, false≢true, true≢false}
+use mathlib.Core.Bool.{Bool, true, false, not, ◌&&◌, ◌||◌, or-false, false≢true, true≢false}
 use mathlib.Core.Logic.{◌⊎◌, inl, inr}
 use native.Mathlib.Nat.{le_of_suc-le-suc}
 use native.Mathlib.Omega.{arith}
 use borrow.Author.Tests.{ltb-true, ltb-false, eqb-true, eqb-false, lt-ltb, le-ltb, le-leb, lt-leb, eq-eqb, ne_eqb}
 use lib.Dec.{ltb, leb, eqb, leb-suc-suc}
 use lib.ListN.{length, get_or, take, drop}
-use Rattle.std.specs.Prelude.{if◌then◌else◌}
+use Rattle.std.specs.Prelude.{if◌then◌else◌, Result, Ok, Err}
+use Rattle.std.specs.Result.{is_ok, is_err}
 use Rattle.model.specs.Lists.{contains, rising, rising_from}
 use Rattle.model.specs.Table.{Member, header_size, table_of, members_in, ids}
 use Rattle.model.specs.Ring.{live, named, nobody}
@@ -18,8 +19,6 @@ use Rattle.model.specs.Calls.{written}
 use Rattle.table.specs.FormedWords.{FormedWords}
 use Rattle.table.specs.Rank.{rank}
 use Rattle.table.specs.Located.{Stands, located}
-use Rattle.table.specs.declared.Located.{Located}
-use Rattle.table.specs.declared.Located.TheVariants.{Here, Missing}
 use Rattle.laws.specs.Words.{OwnHeader, members_length, written_same}
 use Rattle.laws.specs.Tables.{well_formed_facts}
 use Rattle.laws.specs.Lists.{and-true as both, in_live}
@@ -264,28 +263,44 @@ module _ (ws : List ℕ) (k x : ℕ) where
   stands_member f e = sym (contains_rank (ids (members_in ws)) x f.rises ∙ rw (ids_count ws, ← e))
 
 -- a search for x
-abbrev place_of : Located → ℕ
-place_of (Here k) = k
-place_of (Missing k) = k
+abbrev place_of : Result ℕ ℕ → ℕ
+place_of (Ok k) = k
+place_of (Err k) = k
 
-abbrev is_here : Located → Bool
-is_here (Here k) = true
-is_here (Missing k) = false
+abbrev is_here : Result ℕ ℕ → Bool
+is_here (Ok k) = true
+is_here (Err k) = false
 
-said : (b : Bool) (j : ℕ) (s : Located) → s ≡ (if b then Here j else Missing j) → (is_here s ≡ b) × (place_of s ≡ j)
+said : (b : Bool) (j : ℕ) (s : Result ℕ ℕ) → s ≡ (if b then Ok j else Err j) → (is_here s ≡ b) × (place_of s ≡ j)
 said true j s e = rw e (refl, refl)
 said false j s e = rw e (refl, refl)
 
 module _ (ws : List ℕ) (x k : ℕ) where
   -- x is no member and k its rank, or x is a member and k its rank, where it stands
-  pub missing : Missing k ≡ located ws x → (live (members_in ws) x ≡ false) × (k ≡ rank (ids (members_in ws)) x)
-  missing e = let w = said (live (members_in ws) x) (rank (ids (members_in ws)) x) (Missing k) e in (sym w.0, w.1)
+  pub missing : Err k ≡ located ws x → (live (members_in ws) x ≡ false) × (k ≡ rank (ids (members_in ws)) x)
+  missing e = let w = said (live (members_in ws) x) (rank (ids (members_in ws)) x) (Err k) e in (sym w.0, w.1)
 
-  pub present : Here k ≡ located ws x → (live (members_in ws) x ≡ true) × (k ≡ rank (ids (members_in ws)) x)
-  present e = let w = said (live (members_in ws) x) (rank (ids (members_in ws)) x) (Here k) e in (sym w.0, w.1)
+  pub present : Ok k ≡ located ws x → (live (members_in ws) x ≡ true) × (k ≡ rank (ids (members_in ws)) x)
+  present e = let w = said (live (members_in ws) x) (rank (ids (members_in ws)) x) (Ok k) e in (sym w.0, w.1)
 
   pub rank_stands : FormedWords ws → live (members_in ws) x ≡ true → k ≡ rank (ids (members_in ws)) x → Stands ws k x
   rank_stands f l e = let a : At x (members_in ws) k = rw e (live_at (members_in ws) x f.rises l) in record { within = within_count ws a; has_id = at_id a }
 
-  pub here : FormedWords ws → Here k ≡ located ws x → Stands ws k x
+  pub here : FormedWords ws → Ok k ≡ located ws x → Stands ws k x
   here f e = let w = present e in rank_stands f w.0 w.1
+
+-- is what is looked for a member?
+module _ (ws : List ℕ) (x : ℕ) where
+  pub located_live : is_ok (located ws x) ≡ live (members_in ws) x
+  located_live = go (live (members_in ws) x) (rank (ids (members_in ws)) x)
+    where
+      go : (b : Bool) (k : ℕ) → is_ok {T = ℕ} {E = ℕ} (if b then Ok k else Err k) ≡ b
+      go true k = refl
+      go false k = refl
+
+  pub located_dead : is_err (located ws x) ≡ not (live (members_in ws) x)
+  located_dead = go (live (members_in ws) x) (rank (ids (members_in ws)) x)
+    where
+      go : (b : Bool) (k : ℕ) → is_err {T = ℕ} {E = ℕ} (if b then Ok k else Err k) ≡ not b
+      go true k = refl
+      go false k = refl

@@ -2,24 +2,23 @@
 use Prim.Native.Nat.{ℕ, zero, suc, ◌+◌, ◌*◌, ◌-◌, ◌≤◌, ◌<◌}
 use mathlib.Core.Path.{◌≡◌, refl, sym, subst, ◌∙◌}
 use mathlib.Core.List.{List, [], ◌∷◌}
-use mathlib.Core.Bool.{Bool, true, false, ◌&&◌, and-true, and-false}
-use mathlib.Core.Logic.{◌⊎◌, inl, inr, ⊎_elim}
+use mathlib.Core.Bool.{true, ◌&&◌, and-true}
+use mathlib.Core.Logic.{⊎_elim}
 use native.Mathlib.Nat.{suc-mul}
 use native.Mathlib.Numerals.{add-one}
 use native.Mathlib.Omega.{arith}
-use borrow.Author.Tests.{le-leb, lt-leb, lt-ltb, eq-eqb, ne_eqb}
-use lib.Dec.{leb, ltb, eqb, leb-zero}
+use borrow.Author.Tests.{le-leb, lt-ltb, eq-eqb}
+use lib.Dec.{ltb, leb-zero}
 use lib.ListN.{length, get_or, take, drop, length-drop}
 use lib.Seq.{get_or-drop}
 use Rattle.laws.specs.Lists.{and_pairs, In, in_cons, in_nil, in_every, true_rising}
-use Rattle.laws.specs.Order.{equal?, less?}
 use Rattle.model.specs.Lists.{every, rising, rising_from}
 use Rattle.model.specs.Table.{Member, space_of, word_limit, header_size, record_size, table_of, member_of, record_of, members_of, members_in, ids, formed_member, formed as formedTable, well_formed}
 use Rattle.table.specs.FormedWords.{FormedWords}
 use Rattle.table.specs.Tests.{right_pending, right_from}
-use Rattle.laws.specs.Words.{members_length, record_list, record_has, record_steps, record_written}
+use Rattle.laws.specs.Words.{members_length, record_list, record_has, record_steps, record_written, member_part}
 use Rattle.laws.specs.Tables.{well_formed_facts, space_words}
-use Rattle.laws.specs.Parts.{first_member}
+use Rattle.laws.specs.Parts.{first_member, one_of}
 
 -- The answer as facts
 
@@ -103,27 +102,11 @@ tests ws h l lo hi few none fits =
       ← a,
     )
 
--- `record_ok`: pending and candidate by their sum
-module _ (p c : ℕ) where
-  pub both_zero : p + c ≡ 0 → true ≡ right_pending p c
-  unfolding right_pending
-  both_zero h =
-      let d : c ≡ 0 = omega arith in
-      rw (le-leb p 1 (omega arith), ne_eqb p 1 (λ (z : p ≡ 1). omega arith), eq-eqb c 0 d)
-
-  sum_tests : (p ≡ 1) ⊎ (p ≡ 1 → ⊥) → (1 < p) ⊎ (p ≤ 1) → (p + c ≡ 0 → ⊥) → eqb p 1 ≡ right_pending p c
-  unfolding right_pending
-  sum_tests (inl e) q h = rw (eq-eqb p 1 e, le-leb p 1 (omega arith))
-  sum_tests (inr e) (inl q) h = rw (ne_eqb p 1 e, lt-leb p 1 q)
-  sum_tests (inr e) (inr q) h = rw (ne_eqb p 1 e, ne_eqb c 0 (λ (z : c ≡ 0). h (omega arith)), and-false (leb p 1))
-
-  pub not_both_zero : (p + c ≡ 0 → ⊥) → eqb p 1 ≡ right_pending p c
-  not_both_zero h = sum_tests (equal? p 1) (less? 1 p) h
-
--- `records_ok`: the test b of the first record settles it, or leaves the others
-module _ (r n lo : ℕ) (ws : List ℕ) (b : Bool) (h : 0 < n) (t : b ≡ (leb lo (get_or ws 0 0) && right_pending (get_or ws 2 0) (get_or ws 3 0))) where
-  pub right_record : b ≡ true → right_from (get_or ws 0 0 + 1) (members_of r (n - 1) (drop (record_size r) ws)) ≡ right_from lo (members_of r n ws)
-  right_record e = rw (first_member r n ws h, ← t, e)
-
-  pub wrong_record : b ≡ false → false ≡ right_from lo (members_of r n ws)
-  wrong_record e = rw (first_member r n ws h, ← t, e)
+-- `records_ok`: of n records the first, and the others
+pub one_record : (r w n : ℕ) (ws : List ℕ) → w ≡ record_size r → 0 < n → n * w ≤ length ws
+    → (members_of r n ws ≡ member_of r (take w ws) ∷ members_of r (n - 1) (drop w ws)) × (w ≤ length ws) × ((n - 1) * w ≤ length (drop w ws))
+one_record r w n ws e h f =
+    let s = one_of n w h in
+    let l : w ≤ length ws = omega arith in
+    let m : member_of r (take w ws) ≡ member_of r ws = member_part r w ws e l in
+    (rw (m, e) (first_member r n ws h), l, simp length-drop (omega arith))

@@ -13,54 +13,38 @@ ghost use Rattle.table.specs.Tests.{right_pending, right_from};
 
 use member::Member;
 
-// Where an identifier stands among the members, or would stand.
-#[derive(Clone, Copy)]
-pub enum Located {
-    // the place where it stands
-    Here(usize),
-    // the place where it would stand
-    Missing(usize),
-}
-
 // Is the record that the part holds right, with an identifier of at least lo?
+#[tactic(auto, using(std::proofs::lemmas::Bool::Decides::nat_tests), unfolding(crate::specs::Tests::right_pending))]
 fn record_ok(s: &[u32], lo: usize) -> bool
     requires { 4 ≤ length s.now }
     ensures { result ≡ (leb lo (get_or s.now 0 0) && right_pending (get_or s.now 2 0) (get_or s.now 3 0)) }
 {
-    let id = s[words::ID] as usize;
-    if id < lo {
-        return false;
-    }
-    let p = s[words::PENDING];
-    let both = p as usize + s[words::CANDIDATE] as usize;
-    if both == 0 {
-        return true;
-    }
-    p == 1
+    let pending = s[words::PENDING];
+    let candidate = s[words::CANDIDATE];
+    lo <= s[words::ID] as usize && (pending == 1 || pending == 0 && candidate == 0)
 }
 
-// Are the n records at the front right, by rising identifier?
+// Are the n records at the front right, by rising identifier? By count: `chunks_exact` counts the words left too, one instruction more a record.
 fn records_ok(s: &[u32], r: usize, n: usize) -> bool
     requires { (r ≤ 8) × (n * record_size r ≤ length s.now) }
     ensures { result ≡ right_from 0 (members_of r n s.now) }
 {
     let w = words::record_size(r);
-    let mut p = s;
-    let mut left = n;
-    let mut lo: usize = 0;
-    while 0 < left {
-        if record_ok(&p[..w], lo) {
-            lo = p[words::ID] as usize + 1;
-            p = &p[w..];
-            left -= 1;
-        } else {
+    let mut left = s;
+    let mut lo = 0;
+    for _ in 0..n {
+        let (part, others) = left.split_at(w);
+        if !record_ok(part, lo) {
             return false;
         }
+        lo = part[words::ID] as usize + 1;
+        left = others;
     }
     true
 }
 
 // Does the slice hold a well-formed table?
+#[tactic(auto, using(std::proofs::lemmas::Bool::Decides::nat_tests, laws::specs::Words::members_length), unfolding(model::specs::Table::well_formed, model::specs::Table::formed))]
 pub fn well_formed(t: &[u32]) -> bool
     ensures { result ≡ well_formed t.now }
 {
@@ -87,7 +71,8 @@ pub fn well_formed(t: &[u32]) -> bool
     records_ok(words::records_of(t), r, n)
 }
 
-// How many members stand below the identifier x, by halves.
+// How many members stand below the identifier x, by halves: std's `partition_point` looks through a slice of values, and a record is r + 5 of them.
+#[tactic(auto, using(crate::proofs::Members::id_at_law, crate::proofs::Members::record_fits, crate::proofs::Members::ids_count, crate::proofs::Place::rank_up, crate::proofs::Place::rank_down, crate::proofs::Place::rank_most))]
 pub fn rank(t: &[u32], x: u32) -> usize
     requires { FormedWords t.now }
     ensures { (result ≡ rank_of (ids (members_in t.now)) x) × (result ≤ get_or t.now 1 0) }
@@ -109,43 +94,41 @@ pub fn rank(t: &[u32], x: u32) -> usize
 }
 
 // Does the member x stand at place k?
+#[tactic(auto, using(std::proofs::lemmas::Bool::Decides::nat_tests, crate::proofs::Members::id_at_law))]
 pub fn stands_at(t: &[u32], k: usize, x: u32) -> bool
     requires { FormedWords t.now }
     ensures { result ≡ (ltb k (get_or t.now 1 0) && eqb (get_or (ids (members_in t.now)) k 0) x) }
 {
     let r = t[words::R] as usize;
     let n = t[words::COUNT] as usize;
-    if k < n {
-        let at = words::offset(r, k);
-        return t[at] == x;
-    }
-    false
+    k < n && t[words::offset(r, k)] == x
 }
 
 // How many members stand below x: as many as guessed, if x stands there; else by halves.
+#[tactic(auto, using(crate::proofs::Place::stands_rank))]
 pub fn rank_from(t: &[u32], guess: usize, x: u32) -> usize
     requires { FormedWords t.now }
     ensures { (result ≡ rank_of (ids (members_in t.now)) x) × (result ≤ get_or t.now 1 0) }
 {
     if stands_at(t, guess, x) {
-        return guess;
+        guess
+    } else {
+        rank(t, x)
     }
-    rank(t, x)
 }
 
-// Where does x stand among the members, or where is it missing?
-pub fn locate(t: &[u32], x: u32) -> Located
+// Where does x stand among the members? Err: the place where it would stand, as std's `binary_search` says it.
+#[tactic(auto, using(crate::proofs::Place::stands_member))]
+pub fn locate(t: &[u32], x: u32) -> Result<usize, usize>
     requires { FormedWords t.now }
     ensures { result ≡ located t.now x }
 {
     let k = rank(t, x);
-    if stands_at(t, k, x) {
-        return Located::Here(k);
-    }
-    Located::Missing(k)
+    if stands_at(t, k, x) { Ok(k) } else { Err(k) }
 }
 
 // The word i of the record at place k, before its list: identifier, predecessor, pending or candidate.
+#[tactic(auto, using(crate::proofs::Members::word_there, crate::proofs::Members::record_fits))]
 pub fn word_at(t: &[u32], k: usize, i: usize) -> u32
     requires formed_words { FormedWords t.now }
     requires k_bound { (k < get_or t.now 1 0) × (i < 4) }
@@ -157,6 +140,7 @@ pub fn word_at(t: &[u32], k: usize, i: usize) -> u32
 }
 
 // The member at place k.
+#[tactic(auto, using(crate::proofs::Members::whole, crate::proofs::Members::record_fits))]
 pub fn member_at(t: &[u32], k: usize) -> Member
     requires formed_words { FormedWords t.now }
     requires k_bound { k < get_or t.now 1 0 }

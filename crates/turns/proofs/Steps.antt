@@ -11,15 +11,14 @@ use denote.Enum.Declared.{tag_of}
 use types.Run.{OneOf}
 use Rattle.model.specs.Table.{Table, table_of, members_in, ids}
 use Rattle.model.specs.Ring.{live, named}
-use Rattle.model.specs.Answer.{Answer, accepted}
 use Rattle.model.specs.Steps.{stabilize_reply, stabilized, rectified}
 use Rattle.model.specs.Settle.{delivered, next_reply, is_done, last_step}
 use Rattle.model.specs.Calls.{written}
 use Rattle.theory.specs.Runs.{Good, good_kept}
 use Rattle.theory.specs.Turns.{acted_step, acted_delivered}
-use Rattle.answers.specs.Step.{answer_of}
+use Rattle.answers.specs.Step.{values_of}
 use Rattle.answers.specs.declared.step.Step.{Step}
-use Rattle.answers.specs.declared.step.Step.TheVariants.{Again, Look, Done, Declined}
+use Rattle.answers.specs.declared.step.Step.TheVariants.{Again, Look, Done}
 use Rattle.answers.specs.contracts.step.Step as S
 use Rattle.table.specs.FormedWords.{FormedWords}
 use Rattle.table.specs.Located.{Stands}
@@ -27,11 +26,10 @@ use Rattle.table.proofs.Place.{same_words, stands_live}
 use Rattle.turns.proofs.Lasting.{stands_in, lasting_none, stands_still, written_still, Next, lasting_next}
 
 -- a step that is not "done"
-first_value : (a : Step) → ((h : ℕ) → a ≡ Done h → ⊥) → eqb (get_or (answer_of a).values 0 0) 2 ≡ false
+first_value : (a : Step) → ((h : ℕ) → a ≡ Done h → ⊥) → eqb (get_or (values_of a) 0 0) 2 ≡ false
 first_value Again o = refl
 first_value (Look c) o = refl
 first_value (Done h) o = absurd (o h refl)
-first_value (Declined k) o = refl
 
 -- a notice of q to h, which is no member, or is one
 module _ (q h : ℕ) (T : Table) where
@@ -57,15 +55,15 @@ module _ (ws : List ℕ) (f : FormedWords ws) where
     pub step_words : (us : List ℕ) → us ≡ written (stabilized (get_or (ids (members_in ws)) k 0) (table_of ws)) ws → us ≡ written (stabilized n (table_of ws)) ws
     step_words us e = e ∙ ap (λ (x : ℕ). written (stabilized x (table_of ws)) ws) s.has_id
 
-    module _ (a : Step) (e : answer_of a ≡ accepted (stabilize_reply (members_in ws) (named (members_in ws) (get_or (ids (members_in ws)) k 0)))) where
-      says : (answer_of a).values ≡ next_reply n (table_of ws)
-      says = ap (λ (x : Answer). x.values) e ∙ ap (λ (x : ℕ). next_reply x (table_of ws)) s.has_id
+    module _ (a : Step) (e : values_of a ≡ stabilize_reply (members_in ws) (named (members_in ws) (get_or (ids (members_in ws)) k 0))) where
+      says : values_of a ≡ next_reply n (table_of ws)
+      says = e ∙ ap (λ (x : ℕ). next_reply x (table_of ws)) s.has_id
 
       pub not_done : ((h : ℕ) → a ≡ Done h → ⊥) → is_done n (table_of ws) ≡ false
       not_done o = ap (λ (l : List ℕ). eqb (get_or l 0 0) 2) (sym says) ∙ first_value a o
 
       pub is_done_law : (h : ℕ) → a ≡ Done h → next_reply n (table_of ws) ≡ 2 ∷ h ∷ []
-      is_done_law h q = sym says ∙ ap (λ (x : Step). (answer_of x).values) q
+      is_done_law h q = sym says ∙ ap values_of q
 
 -- a reply of "done" and h
 module _ (n h : ℕ) (T : Table) (e : next_reply n T ≡ 2 ∷ h ∷ []) where

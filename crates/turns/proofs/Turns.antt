@@ -3,7 +3,6 @@ use Prim.Native.Nat.{ℕ, suc, ◌+◌, ◌-◌, ◌≤◌, ◌<◌}
 use mathlib.Core.Path.{◌≡◌, sym, ap, ◌∙◌}
 use mathlib.Core.Bool.{true, false}
 use mathlib.Core.List.{List, [], ◌∷◌}
-use native.Mathlib.Numerals.{add-one}
 use native.Mathlib.Omega.{arith}
 use lib.ListN.{get_or, drop, drop_of_length-le}
 use lib.Seq.{drop-cons}
@@ -59,8 +58,8 @@ pub record Until (n f : ℕ) (ws : List ℕ) (left : ℕ) (us : List ℕ) : Type
   pub rest : until_done left n (table_of us) ≡ until_done f n (table_of ws)
 
 -- before the first step
-pub until_starts : {ws : List ℕ} → Good ws → (n k : ℕ) → Until n (suc k) ws (k + 1) ws
-until_starts {ws} g n k = record { follows = lasting_none g; rest = ap (λ (i : ℕ). until_done i n (table_of ws)) (add-one k) }
+pub until_starts : {ws : List ℕ} → Good ws → (n k left : ℕ) → left ≡ suc k → Until n (suc k) ws left ws
+until_starts {ws} g n k left e = record { follows = lasting_none g; rest = ap (λ (i : ℕ). until_done i n (table_of ws)) e }
 
 module _ {ws us : List ℕ} {k n f left : ℕ} (g : Good ws) (s : Stands ws k n) (u : Until n f ws left us) where
   -- no step is left, or one more is taken
@@ -78,12 +77,15 @@ module _ {ws us : List ℕ} {k n f left : ℕ} (g : Good ws) (s : Stands ws k n)
         e ∙ (ap (λ (T : Table). written T us) (until_last n left (left - 1) (table_of us) one_left d)
         ∙ (written_still g u.follows (until_done left n (table_of us)) l ∙ ap (λ (T : Table). written T ws) u.rest))
 
-    pub until_left : is_done n (table_of us) ≡ false → Until n f ws (left - 1) vs
-    until_left d =
+    one_fewer : is_done n (table_of us) ≡ false → Until n f ws (left - 1) vs
+    one_fewer d =
         let i = stands_in (stands_still g u.follows s) in
         let t : step_of n (table_of us) ≡ stabilized n (table_of us) = rw d in
         let x = lasting_next g u.follows (stabilized n (table_of us)) (acted_step (table_of us) u.follows.lasts.kept n i).lasts (e ∙ ap (λ (T : Table). written T us) t) in
         record { follows = x.follows; rest = ap (until_done (left - 1) n) (x.has ∙ sym t) ∙ (until_on n left (left - 1) (table_of us) one_left d ∙ u.rest) }
+
+    pub until_left : is_done n (table_of us) ≡ false → (rest : ℕ) → rest ≡ left - 1 → Until n f ws rest vs
+    until_left d rest q = rw q (one_fewer d)
 
 -- A turn: a pending step finished, then steps until "done"
 

@@ -12,17 +12,15 @@ ghost use Rattle.table.specs.FormedWords.{FormedWords};
 ghost use Rattle.table.specs.Located.{Stands};
 
 use answers::step::Step;
-use table::Located;
 
 // The notice of q is delivered to h, which rectifies; a notice to a non-member is lost.
 fn deliver(t: &mut [u32], h: u32, q: u32)
     requires { FormedWords t.old }
     ensures { t.new ≡ written (delivered q h (table_of t.old)) t.old }
 {
-    let Located::Here(k) = table::locate(t, h) else {
-        return;
-    };
-    rectify_at::rectify_at(t, k, q);
+    if let Ok(k) = table::locate(t, h) {
+        rectify_at::rectify_at(t, k, q);
+    }
 }
 
 // One step of the member n, which stands at place k, and its notice if it says "done": does it?
@@ -66,12 +64,10 @@ fn until_done(t: &mut [u32], k: usize, n: u32)
     requires stands { Stands t.old k n }
     ensures { t.new ≡ written (until_done (suc (table_of t.old).r) n (table_of t.old)) t.old }
 {
-    let mut left = t[words::R] as usize + 1;
-    while 0 < left {
+    for _taken in 0..t[words::R] as usize + 1 {
         if step(t, k, n) {
             return;
         }
-        left -= 1;
     }
 }
 
@@ -91,11 +87,7 @@ pub fn run_round(t: &mut [u32])
     requires { Good t.old }
     ensures { t.new ≡ written (after_round (table_of t.old)) t.old }
 {
-    let n = t[words::COUNT] as usize;
-    let mut left = n;
-    while 0 < left {
-        let place = n - left;
-        turn_at(t, place);
-        left -= 1;
+    for k in 0..t[words::COUNT] as usize {
+        turn_at(t, k);
     }
 }

@@ -7,6 +7,9 @@ ghost use Rattle.model.specs.Table.{record_size, member_of, members_of, members_
 ghost use Rattle.model.specs.Ring.{candidate_inside, principals, sound, verdict};
 ghost use Rattle.table.specs.FormedWords.{FormedWords};
 ghost use Rattle.best_successors.specs.Places.{BestPlaces};
+ghost use Rattle.answers.specs.Verdict.{number_of};
+
+use answers::report::Verdict;
 
 // Lies the candidate of the record that the part holds, if one is pending, between its member and the first entry?
 fn candidate_inside(s: &[u32]) -> bool
@@ -25,13 +28,8 @@ pub fn candidates_inside(s: &[u32], r: usize, n: usize) -> bool
     ensures { result ≡ every candidate_inside (members_of r n s.now) }
 {
     let w = words::record_size(r);
-    let mut p = s;
-    let mut left = n;
-    while 0 < left {
-        if candidate_inside(&p[..w]) {
-            p = &p[w..];
-            left -= 1;
-        } else {
+    for record in s.chunks_exact(w).take(n) {
+        if !candidate_inside(record) {
             return false;
         }
     }
@@ -56,18 +54,18 @@ pub fn is_sound(t: &[u32], best: &[u16; 256], count: usize) -> bool
     false
 }
 
-// The verdict on a table with so many principals: 0 not sound, 1 sound, 2 sound and ideal.
-pub fn verdict_of(t: &[u32], best: &[u16; 256], count: usize) -> u32
+// The verdict on a table with so many principals.
+pub fn verdict_of(t: &[u32], best: &[u16; 256], count: usize) -> Verdict
     requires formed_words { FormedWords t.now }
     requires best_places { BestPlaces t.now best.now }
     requires count_value { count ≡ principals (members_in t.now) }
-    ensures { result ≡ verdict (table_of t.now) }
+    ensures { number_of result ≡ verdict (table_of t.now) }
 {
-    if is_sound(t, best, count) {
-        if ideal::is_ideal(t) {
-            return 2;
-        }
-        return 1;
+    if !is_sound(t, best, count) {
+        return Verdict::NotSound;
     }
-    0
+    if ideal::is_ideal(t) {
+        return Verdict::Ideal;
+    }
+    Verdict::Sound
 }

@@ -1,21 +1,17 @@
 -- The words of windows by pairs: what is left to judge and to look through from place i on, and how many windows so many words say. Assumes nothing.
-use Rattle.std.proofs.Common.{◌≡◌, ℕ, suc, ◌+◌, ◌-◌, ◌*◌, ◌<◌, ◌≤◌, Bool, true, false, not, ◌&&◌, ◌||◌, eqb, leb, ◌⊎◌, List, [], ◌∷◌, length, get_or, drop, sym, refl, ◌∙◌, inl, inr, true≢false, arith, length-drop, drop-cons, eq-eqb, ne_eqb, le-leb}
-use mathlib.Core.Bool.{and-false, or-true, or-false, false≢true}
+use Rattle.std.proofs.Common.{◌≡◌, ℕ, suc, ◌+◌, ◌*◌, ◌/◌, ◌%◌, ◌<◌, ◌≤◌, Bool, true, false, not, ◌&&◌, ◌||◌, eqb, leb, ◌⊎◌, List, [], ◌∷◌, length, get_or, drop, sym, refl, ap, ◌∙◌, inl, inr, true≢false, arith, add-one, drop-cons, ne_eqb, le-leb}
+use mathlib.Core.Bool.{or-false, not-not, false≢true}
 use borrow.Author.Tests.{lt-leb}
+use Rattle.std.specs.List.{fold, list_all}
+use Rattle.std.specs.Simd.{first_chunks}
 use Rattle.model.specs.Lists.{every}
-use Rattle.model.specs.Windows.{window, windows_in, paired, in_window, is_open}
+use Rattle.model.specs.Windows.{Window, window, windows_in, paired, in_window, is_open}
 use Rattle.model.specs.Refusals.{right_window, bad_windows}
 use Rattle.laws.specs.Order.{less?}
 
 -- each word has its partner, and each window is right; that they are not too many is apart
 abbrev pub right_words : List ℕ → Bool
 right_words vs = paired vs && every right_window (windows_in vs)
-
-pub two : (vs : List ℕ) (i : ℕ) → 1 < length vs - i → drop i vs ≡ get_or vs i 0 ∷ get_or vs (i + 1) 0 ∷ drop (i + 2) vs
-two vs i h =
-    let a : i + 1 ≡ suc i = omega arith in
-    let b : i + 2 ≡ suc (suc i) = omega arith in
-    rw (a, b, drop-cons vs i 0 (omega arith), drop-cons vs (suc i) 0 (omega arith))
 
 -- How many windows
 
@@ -53,39 +49,52 @@ few_words vs b = go (less? 32 (length vs))
     go (inl h) = absurd (true≢false (sym (many_bad vs h) ∙ b))
     go (inr h) = h
 
--- What is left from place i on
+-- By pairs: what std's methods make of the words two at a time
 
-module _ (vs : List ℕ) (i : ℕ) where
-  module _ (h : 1 < length vs - i) where
-    pub rights_on : right_window (window (get_or vs i 0) (get_or vs (i + 1) 0)) ≡ true → right_words (drop (i + 2) vs) ≡ right_words (drop i vs)
-    rights_on r = rw (two vs i h, r)
+half_on : (s e : ℕ) (vs : List ℕ) → length (s ∷ e ∷ vs) / 2 ≡ suc (length vs / 2)
+half_on s e vs = omega arith
 
-    pub rights_not : right_window (window (get_or vs i 0) (get_or vs (i + 1) 0)) ≡ false → right_words (drop i vs) ≡ false
-    rights_not r = rw (two vs i h, r, and-false)
+every_pair : (f : Window → Bool) (vs : List ℕ) → every f (windows_in vs) ≡ list_all (λ p. f (window (get_or p 0 0) (get_or p 1 0))) (first_chunks 2 (length vs / 2) vs)
+every_pair f [] = refl
+every_pair f (s ∷ []) = refl
+every_pair f (s ∷ e ∷ vs) = rw (half_on s e vs) (ap (λ (b : Bool). f (window s e) && b) (every_pair f vs))
 
-    -- one that holds the minute was found, or one of those that are left holds it
-    pub found_here : (found : Bool) (m : ℕ) → in_window m (window (get_or vs i 0) (get_or vs (i + 1) 0)) ≡ true → true ≡ (found || is_open (windows_in (drop i vs)) m)
-    found_here found m e = rw (two vs i h, e, or-true)
+pub open_pairs : (vs : List ℕ) (m : ℕ) (b : Bool)
+    → fold (λ (found : Bool) (p : List ℕ). found || in_window m (window (get_or p 0 0) (get_or p 1 0))) b (first_chunks 2 (length vs / 2) vs) ≡ (b || is_open (windows_in vs) m)
+open_pairs [] m b = sym (or-false b)
+open_pairs (s ∷ []) m b = sym (or-false b)
+open_pairs (s ∷ e ∷ vs) m b = rw (half_on s e vs) (open_pairs vs m (b || in_window m (window s e)) ∙ go b)
+  where
+    go : (b : Bool) → (b || in_window m (window s e) || is_open (windows_in vs) m) ≡ (b || (in_window m (window s e) || is_open (windows_in vs) m))
+    go true = refl
+    go false = refl
 
-    pub found_on : (found : Bool) (m : ℕ) → in_window m (window (get_or vs i 0) (get_or vs (i + 1) 0)) ≡ false
-        → (found || is_open (windows_in (drop (i + 2) vs)) m) ≡ (found || is_open (windows_in (drop i vs)) m)
-    found_on found m e = rw (two vs i h, e)
+pub paired_even : (vs : List ℕ) → paired vs ≡ eqb (length vs % 2) 0
+paired_even [] = refl
+paired_even (s ∷ []) = refl
+paired_even (s ∷ e ∷ vs) = let m : suc (suc (length vs)) % 2 ≡ length vs % 2 = omega arith in rw m (paired_even vs)
 
-  pub rights_end : length vs - i ≤ 1 → i ≤ length vs → eqb i (length vs) ≡ right_words (drop i vs)
-  rights_end h l = go (drop i vs) (length-drop i vs)
-    where
-      go : (us : List ℕ) → length us ≡ length vs - i → eqb i (length vs) ≡ right_words us
-      go [] e = eq-eqb i (length vs) (omega arith)
-      go (s ∷ []) e = ne_eqb i (length vs) (λ q. omega arith)
-      go (s ∷ t ∷ us) e = absurd (omega arith)
+module _ (vs : List ℕ) where
+  pub right_pairs : length vs ≤ 32 → length vs % 2 ≡ 0 → list_all (λ p. right_window (window (get_or p 0 0) (get_or p 1 0))) (first_chunks 2 (length vs / 2) vs) ≡ not (bad_windows vs)
+  right_pairs h e = rw (few_rights vs h, not-not, paired_even vs, e) (sym (every_pair right_window vs))
 
-  pub no_more_law : length vs - i ≤ 1 → windows_in (drop i vs) ≡ []
-  no_more_law h = go (drop i vs) (length-drop i vs)
-    where
-      go : (us : List ℕ) → length us ≡ length vs - i → windows_in us ≡ []
-      go [] e = refl
-      go (s ∷ []) e = refl
-      go (s ∷ t ∷ us) e = absurd (omega arith)
+  pub many_wrong : 32 < length vs → false ≡ not (bad_windows vs)
+  many_wrong h = rw (many_bad vs h)
 
-  pub found_end : length vs - i ≤ 1 → (found : Bool) (m : ℕ) → found ≡ (found || is_open (windows_in (drop i vs)) m)
-  found_end h found m = rw (no_more_law h, or-false)
+  pub odd_wrong : (length vs % 2 ≡ 0 → ⊥) → false ≡ not (bad_windows vs)
+  unfolding bad_windows
+  odd_wrong n = rw (paired_even vs, ne_eqb (length vs % 2) 0 n)
+
+-- the windows that pairs say
+abbrev pub said : List (List ℕ) → List Window
+said [] = []
+said (p ∷ ps) = window (get_or p 0 0) (get_or p 1 0) ∷ said ps
+
+pub said_pairs : (vs : List ℕ) → said (first_chunks 2 (length vs / 2) vs) ≡ windows_in vs
+said_pairs [] = refl
+said_pairs (s ∷ []) = refl
+said_pairs (s ∷ e ∷ vs) = rw (half_on s e vs) (ap (λ (l : List Window). window s e ∷ l) (said_pairs vs))
+
+-- the next pair of those that are left
+pub said_next : (ps : List (List ℕ)) (i : ℕ) (p : List ℕ) → i < length ps → said (drop i ps) ≡ window (get_or (get_or ps i p) 0 0) (get_or (get_or ps i p) 1 0) ∷ said (drop (i + 1) ps)
+said_next ps i p h = rw (add-one, drop-cons ps i p h)

@@ -1,27 +1,12 @@
 -- The words of windows in an array of 32, and zeros after them: these say windows that hold nothing. Assumes nothing.
-use Rattle.std.proofs.Common.{◌≡◌, ℕ, zero, suc, ◌+◌, ◌-◌, ◌<◌, ◌≤◌, Bool, true, false, ◌||◌, List, [], ◌∷◌, ◌++◌, length, get_or, take, set, replicate, sym, refl, ap, ◌∙◌, append_assoc, arith, length-append, length-take-le, take_all, take-suc}
+use Rattle.std.proofs.Common.{◌≡◌, ℕ, zero, suc, ◌-◌, ◌≤◌, Bool, true, false, ◌||◌, List, [], ◌∷◌, ◌++◌, length, replicate, refl, ap, arith, length-append}
 use mathlib.Core.Bool.{false≢true}
 use lib.ListN.{length-replicate}
-use lib.Seq.{set_at}
 use Rattle.model.specs.Windows.{window, windows_in, paired, in_window, is_open}
 use Rattle.model.specs.Refusals.{bad_windows}
 use Rattle.laws.specs.Windows.{behind, shut_closed, right_windows}
 
--- so many words are there
-abbrev pub filled : List ℕ → ℕ → List ℕ
-filled ws i = take i ws ++ replicate (32 - i) 0
-
 module _ (ws : List ℕ) (few : length ws ≤ 32) where
-  pub filled_on : (i : ℕ) → i < length ws → set (filled ws i) i (get_or ws i 0) ≡ filled ws (i + 1)
-  filled_on i h =
-      let a : i + 1 ≡ suc i = omega arith in
-      let b : 32 - i ≡ suc (32 - suc i) = omega arith in
-      rw (a, b, take-suc ws i 0 h) (set_at (take i ws) 0 (replicate (32 - suc i) 0) (get_or ws i 0) i (length-take-le i ws (omega arith))
-      ∙ sym (append_assoc (take i ws) (get_or ws i 0 ∷ []) (replicate (32 - suc i) 0)))
-
-  pub filled_all : (i : ℕ) → i ≤ length ws → length ws ≤ i → filled ws i ≡ ws ++ replicate (32 - length ws) 0
-  filled_all i h k = let e : i ≡ length ws = omega arith in rw (e, take_all (length ws) ws (omega arith))
-
   pub padded_length : length (ws ++ replicate (32 - length ws) 0) ≡ 32
   padded_length = simp (length-append, length-replicate) (omega arith)
 

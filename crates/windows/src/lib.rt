@@ -19,10 +19,11 @@ const MINUTES_END: u32 = 4294967295;
 pub fn holds(start: u32, end: u32, m: u32) -> bool
     ensures { result ≡ in_window m (window start end) }
 {
-    std::num::wrapping_sub_u32(m, start) < std::num::wrapping_sub_u32(end, start)
+    m.wrapping_sub(start) < end.wrapping_sub(start)
 }
 
 // Is it a window between two different minutes of the week?
+#[tactic(auto, unfolding(model::specs::Refusals::right_window))]
 pub fn is_window(start: u32, end: u32) -> bool
     ensures { result ≡ right_window (window start end) }
 {
@@ -33,18 +34,10 @@ pub fn is_window(start: u32, end: u32) -> bool
 pub fn are_windows(ws: &[u32]) -> bool
     ensures { result ≡ not (bad_windows ws.now) }
 {
-    let n = ws.len();
-    if MOST_WORDS < n {
-        return false;
-    }
-    let mut i: usize = 0;
-    while 1 < n - i {
-        if !is_window(ws[i], ws[i + 1]) {
-            return false;
-        }
-        i += 2;
-    }
-    i == n
+    let (pairs, odd) = ws.as_chunks::<2>();
+    ws.len() <= MOST_WORDS
+        && odd.is_empty()
+        && pairs.iter().all(|&[start, end]| is_window(start, end))
 }
 
 // The words of windows, and zeros after them: the windows from 0 to 0 that these say hold no minute.
@@ -52,13 +45,8 @@ pub fn padded(ws: &[u32]) -> [u32; 32]
     requires { length ws.now ≤ 32 }
     ensures { result ≡ ws.now ++ replicate (32 - length ws.now) 0 }
 {
-    let mut w = [0u32; 32];
-    let n = ws.len();
-    let mut i: usize = 0;
-    while i < n {
-        w[i] = ws[i];
-        i += 1;
-    }
+    let mut w = [0; 32];
+    w[..ws.len()].copy_from_slice(ws);
     w
 }
 
@@ -67,25 +55,15 @@ pub fn is_open_at(w: &[u32; 32], m: u32) -> bool
     requires { length w.now ≡ 32 }
     ensures { result ≡ is_open (windows_in w.now) m }
 {
-    let mut found = false;
-    let mut i: usize = 0;
-    while 1 < MOST_WORDS - i {
-        let here = holds(w[i], w[i + 1], m);
-        i += 2;
-        if here {
-            found = true;
-        }
-    }
-    found
+    let (pairs, _) = w.as_chunks::<2>();
+    pairs
+        .iter()
+        .fold(false, |found, &[start, end]| found | holds(start, end, m))
 }
 
 // Do the minutes strictly rise, each below 4294967295? Where not, it is 16. If they rise, the last is the highest.
 pub fn are_minutes(ts: &[u32]) -> bool
     ensures { result ≡ not (bad_minutes ts.now) }
 {
-    if rising::is_rising(ts) {
-        let n = ts.len();
-        return n < 1 || ts[n - 1] < MINUTES_END;
-    }
-    false
+    rising::is_rising(ts) && ts.last().is_none_or(|&t| t < MINUTES_END)
 }

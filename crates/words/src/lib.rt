@@ -60,30 +60,21 @@ pub fn read_member(part: &[u32], r: usize) -> Member
     requires { (r ≤ 8) × (record_size r ≤ length part.now) }
     ensures { view r result ≡ member_of r part.now }
 {
-    if LIST + 8 <= part.len() {
-        return Member {
-            id: part[ID],
-            predecessor: part[PREDECESSOR],
-            pending: part[PENDING],
-            candidate: part[CANDIDATE],
-            successors: [
-                part[4], part[5], part[6], part[7], part[8], part[9], part[10], part[11],
-            ],
-            steps: part[LIST + r],
-        };
-    }
-    let mut l = [0u32; 8];
-    let mut i = 0;
-    while i < r {
-        l[i] = part[LIST + i];
-        i += 1;
-    }
+    let successors = if LIST + 8 <= part.len() {
+        let mut l = [0; 8];
+        l.copy_from_slice(&part[LIST..LIST + 8]);
+        l
+    } else {
+        let mut l = [0; 8];
+        l[..r].copy_from_slice(&part[LIST..LIST + r]);
+        l
+    };
     Member {
         id: part[ID],
         predecessor: part[PREDECESSOR],
         pending: part[PENDING],
         candidate: part[CANDIDATE],
-        successors: l,
+        successors,
         steps: part[LIST + r],
     }
 }
@@ -97,23 +88,10 @@ pub fn write_member(part: &mut [u32], m: Member, r: usize)
     part[PREDECESSOR] = m.predecessor;
     part[PENDING] = m.pending;
     part[CANDIDATE] = m.candidate;
-    let l = m.successors;
     if r == 8 {
-        part[4] = l[0];
-        part[5] = l[1];
-        part[6] = l[2];
-        part[7] = l[3];
-        part[8] = l[4];
-        part[9] = l[5];
-        part[10] = l[6];
-        part[11] = l[7];
-        part[12] = m.steps;
-        return;
-    }
-    let mut i = 0;
-    while i < r {
-        part[LIST + i] = l[i];
-        i += 1;
+        part[LIST..LIST + 8].copy_from_slice(&m.successors);
+    } else {
+        part[LIST..LIST + r].copy_from_slice(&m.successors[..r]);
     }
     part[LIST + r] = m.steps;
 }
@@ -123,11 +101,7 @@ pub fn open_gap(tail: &mut [u32], used: usize, gap: usize)
     requires { used + gap ≤ length tail.old }
     ensures { tail.new ≡ take gap tail.old ++ (take used tail.old ++ drop (used + gap) tail.old) }
 {
-    let mut i = used;
-    while 0 < i {
-        i -= 1;
-        tail[i + gap] = tail[i];
-    }
+    tail.copy_within(..used, gap);
 }
 
 // The words at the front are closed over: the used words after them move down, and the words freed become 0.
@@ -135,13 +109,8 @@ pub fn close_gap(tail: &mut [u32], used: usize, gap: usize)
     requires { (gap ≤ used) × (used ≤ length tail.old) }
     ensures { tail.new ≡ drop gap (take used tail.old) ++ (replicate gap 0 ++ drop used tail.old) }
 {
-    let n = used - gap;
-    for i in 0..n {
-        tail[i] = tail[i + gap];
-    }
-    for j in n..used {
-        tail[j] = 0;
-    }
+    tail.copy_within(gap..used, 0);
+    tail[used - gap..used].fill(0);
 }
 
 // A gap is opened at the front of the tail, and the record written there.

@@ -1,39 +1,33 @@
 -- `alike` meets its contract. Assumes nothing.
-use mathlib.Core.Path.{◌≡◌, sym, ap, ◌∙◌}
-use mathlib.Core.Bool.{Bool, true, and-false}
-use mathlib.Core.List.{[], ◌∷◌}
+use Rattle.std.proofs.Common.{◌≡◌, sym, ap, ◌∙◌, Bool, true, false, refl, [], ◌∷◌}
+use mathlib.Core.Bool.{and-false}
 use Rattle.model.specs.Lists.{bit}
-use Rattle.model.specs.Table.{well_formed}
 use Rattle.model.specs.Answer.{accepted}
 use Rattle.model.specs.Refusals.{alike_refusal}
 use Rattle.model.specs.Calls.{alike_answer}
+use Rattle.answers.specs.YesNo.{values_of}
 use Rattle.table.proofs.WellFormed.{formed_words}
 use Rattle.alike.proofs.alike.Goals as goal
+use Rattle.alike.proofs.alike.Goals.{then-not-well_formed-via-then-not-well_formed, then-not-well_formed-via-else-not-well_formed+then-not-well_formed-2}
 
-pub tables_alike-requires : goal.tables_alike-requires
-tables_alike-requires c =
-    let first : well_formed c.args.us.now ≡ true = sym c.well_formed-2.ensures ∙ c.if-well_formed.true in
-    let second : well_formed c.args.vs.now ≡ true = sym c.well_formed-then-well_formed.ensures ∙ c.if-well_formed-2.true in
-    record { formed_words = formed_words _ first; formed_words_2 = formed_words _ second }
-
-pub returns-then-tables_alike : goal.returns-then-tables_alike
+pub returns-then-not-well_formed : goal.returns-then-not-well_formed
 unfolding alike_answer alike_refusal
-returns-then-tables_alike c =
-    let first : well_formed c.args.us.now ≡ true = sym c.well_formed-2.ensures ∙ c.if-well_formed.true in
-    let second : well_formed c.args.vs.now ≡ true = sym c.well_formed-then-well_formed.ensures ∙ c.if-well_formed-2.true in
-    rw (first, second) (ap (λ (b : Bool). accepted (bit b ∷ [])) (sym c.if-tables_alike.true ∙ c.tables_alike.ensures))
+returns-then-not-well_formed c = elim c.then-not-well_formed.branch [
+  | then-not-well_formed-via-then-not-well_formed w ↦ rw (sym c.well_formed-2.ensures ∙ w.if-not-well_formed.true)
+  | then-not-well_formed-via-else-not-well_formed+then-not-well_formed-2 w ↦ rw (sym w.well_formed-else-not-well_formed.ensures ∙ w.if-not-well_formed-2.true, and-false)
+]
 
-pub returns-then-well_formed-2 : goal.returns-then-well_formed-2
-unfolding alike_answer alike_refusal
-returns-then-well_formed-2 c =
-    let first : well_formed c.args.us.now ≡ true = sym c.well_formed-2.ensures ∙ c.if-well_formed.true in
-    let second : well_formed c.args.vs.now ≡ true = sym c.well_formed-then-well_formed.ensures ∙ c.if-well_formed-2.true in
-    rw (first, second) (ap (λ (b : Bool). accepted (bit b ∷ [])) (sym c.if-tables_alike.false ∙ c.tables_alike.ensures))
+pub tables_alike-requires-clause-formed_words : goal.tables_alike-requires-clause-formed_words
+tables_alike-requires-clause-formed_words c = formed_words _ (sym c.well_formed-2.ensures ∙ c.if-not-well_formed.false)
 
-pub returns-else-well_formed-2 : goal.returns-else-well_formed-2
-unfolding alike_answer alike_refusal
-returns-else-well_formed-2 c = rw (sym c.well_formed-then-well_formed.ensures ∙ c.if-well_formed-2.false, and-false)
+pub tables_alike-requires-clause-formed_words_2 : goal.tables_alike-requires-clause-formed_words_2
+tables_alike-requires-clause-formed_words_2 c = formed_words _ (sym c.well_formed-else-not-well_formed.ensures ∙ c.if-not-well_formed-2.false)
 
-pub returns-else-well_formed : goal.returns-else-well_formed
+said : (b : Bool) → accepted (values_of b) ≡ accepted (bit b ∷ [])
+said true = refl
+said false = refl
+
+pub returns : goal.returns
 unfolding alike_answer alike_refusal
-returns-else-well_formed c = rw (sym c.well_formed-2.ensures ∙ c.if-well_formed.false)
+returns c = rw (sym c.well_formed-2.ensures ∙ c.if-not-well_formed.false, sym c.well_formed-else-not-well_formed.ensures ∙ c.if-not-well_formed-2.false)
+    (said c.tables_alike.result ∙ ap (λ (b : Bool). accepted (bit b ∷ [])) c.tables_alike.ensures)

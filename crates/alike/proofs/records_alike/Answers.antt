@@ -1,108 +1,45 @@
 -- `records_alike` meets its contract. The invariant: the records left answer as all do. Assumes nothing.
-use Prim.Native.Nat.{◌≤◌}
-use mathlib.Core.Path.{◌≡◌, sym, ap₂, ◌∙◌}
-use native.Mathlib.Omega.{arith}
-use lib.ListN.{length}
-use lib.Seq.{length-take-le}
-use borrow.Author.Rules.{rules}
-use Rattle.model.specs.Table.{member_of}
-use Rattle.model.specs.Alike.{alike_member}
-use Rattle.laws.specs.Parts.{part_from, one_fits, rest_fits}
-use Rattle.laws.specs.Words.{member_part}
-use Rattle.alike.proofs.Records.{unlike_here, alike_on}
+use Rattle.std.proofs.Common.{◌≡◌, ◌∙◌, ◌+◌, ◌-◌, arith, length, length-append, inl, inr}
+use Rattle.alike.proofs.Records.{cut, one_pair, none_left}
 use Rattle.alike.proofs.records_alike.Goals as goal
 
-pub slice_bounds-record_alike-end : goal.slice_bounds-record_alike-end
-slice_bounds-record_alike-end c =
-    let one : (c.record_size-w.result ≤ length c.loop-left.p.now) × (c.record_size-w.result ≤ length c.loop-left.q.now) = (
-    let k = c.loop-left in
-    let r = c.args.r in
-    rw c.record_size-w.ensures (one_fits r k.left k.p.now c.loop-left-test.true k.invariant.0, one_fits r k.left k.q.now c.loop-left-test.true k.invariant.1)) in
-    sym (length-take-le _ _ one.0)
+pub loop-u-init : goal.loop-u-init
+loop-u-init c =
+    let a = c.args in
+    let z : a.n - 0 ≡ a.n = omega arith in
+    let e = rw (← c.into_iter-u-iterator.ensures.into_iter_gives) at c.zip-pairs.ensures.first in
+    let f = rw (← c.into_iter-u-iterator.ensures.into_iter_gives) at c.zip-pairs.ensures.second in
+    let p = cut a.r c.record_size-w.result a.n a.us.now c.record_size-w.ensures c.requires.1 in
+    let q = cut a.r c.record_size-w.result a.n a.vs.now c.record_size-w.ensures c.requires.2 in
+    let g = c.chunks_exact.ensures in
+    let h = c.chunks_exact-2.ensures in record {
+      size = rw (e, f) (g.size, h.size);
+      many = rw (e, f, g.rest, h.rest, z) (p.0, q.0);
+      test = rw (e, f, g.rest, h.rest, z, p.1, q.1);
+    }
 
-pub slice_bounds-record_alike-end-in-loop-left : goal.slice_bounds-record_alike-end-in-loop-left
-slice_bounds-record_alike-end-in-loop-left c =
-    let one : (c.record_size-w.result ≤ length c.loop-left.p.now) × (c.record_size-w.result ≤ length c.loop-left.q.now) = (
-    let k = c.loop-left in
-    let r = c.args.r in
-    rw c.record_size-w.ensures (one_fits r k.left k.p.now c.loop-left-test.true k.invariant.0, one_fits r k.left k.q.now c.loop-left-test.true k.invariant.1)) in
-    sym (length-take-le _ _ one.1)
+pub returns-then-not-record_alike : goal.returns-then-not-record_alike
+returns-then-not-record_alike c =
+    let k = c.loop-u in
+    let s = c.in-Some.ensures.steps in
+    let o = one_pair c.args.r c.record_size-w.result _ _ _ _ _ _ _ c.record_size-w.ensures s.0.1.0 s.1.1.0 (s.0.1.1 ∙ k.invariant.size.0) (s.1.1.1 ∙ k.invariant.size.1) k.invariant.many.0 k.invariant.many.1 in
+    rw (o.2, ← c.record_alike.ensures, c.if-not-record_alike.true) at k.invariant.test
 
-pub record_alike-requires : goal.record_alike-requires
-record_alike-requires c =
-    let one : (c.record_size-w.result ≤ length c.loop-left.p.now) × (c.record_size-w.result ≤ length c.loop-left.q.now) = (
-    let k = c.loop-left in
-    let r = c.args.r in
-    rw c.record_size-w.ensures (one_fits r k.left k.p.now c.loop-left-test.true k.invariant.0, one_fits r k.left k.q.now c.loop-left-test.true k.invariant.1)) in
-    let w = c.record_size-w.ensures in
-    (search rules, rw (length-take-le _ _ one.0, w) (omega arith), rw (length-take-le _ _ one.1, w) (omega arith))
-
-pub slice_bounds-p-count : goal.slice_bounds-p-count
-slice_bounds-p-count c =
-    let one : (c.record_size-w.result ≤ length c.loop-left.p.now) × (c.record_size-w.result ≤ length c.loop-left.q.now) = (
-    let k = c.loop-left in
-    let r = c.args.r in
-    rw c.record_size-w.ensures (one_fits r k.left k.p.now c.loop-left-test.true k.invariant.0, one_fits r k.left k.q.now c.loop-left-test.true k.invariant.1)) in
-    one.0
-
-pub slice_bounds-p-start : goal.slice_bounds-p-start
-slice_bounds-p-start c =
-    let one : (c.record_size-w.result ≤ length c.loop-left.p.now) × (c.record_size-w.result ≤ length c.loop-left.q.now) = (
-    let k = c.loop-left in
-    let r = c.args.r in
-    rw c.record_size-w.ensures (one_fits r k.left k.p.now c.loop-left-test.true k.invariant.0, one_fits r k.left k.q.now c.loop-left-test.true k.invariant.1)) in
-    one.0
-
-pub slice_bounds-q-count : goal.slice_bounds-q-count
-slice_bounds-q-count c =
-    let one : (c.record_size-w.result ≤ length c.loop-left.p.now) × (c.record_size-w.result ≤ length c.loop-left.q.now) = (
-    let k = c.loop-left in
-    let r = c.args.r in
-    rw c.record_size-w.ensures (one_fits r k.left k.p.now c.loop-left-test.true k.invariant.0, one_fits r k.left k.q.now c.loop-left-test.true k.invariant.1)) in
-    one.1
-
-pub slice_bounds-q-start : goal.slice_bounds-q-start
-slice_bounds-q-start c =
-    let one : (c.record_size-w.result ≤ length c.loop-left.p.now) × (c.record_size-w.result ≤ length c.loop-left.q.now) = (
-    let k = c.loop-left in
-    let r = c.args.r in
-    rw c.record_size-w.ensures (one_fits r k.left k.p.now c.loop-left-test.true k.invariant.0, one_fits r k.left k.q.now c.loop-left-test.true k.invariant.1)) in
-    one.1
-
-pub loop-left-preserved : goal.loop-left-preserved
-loop-left-preserved c =
-    let one : (c.record_size-w.result ≤ length c.loop-left.p.now) × (c.record_size-w.result ≤ length c.loop-left.q.now) = (
-    let k = c.loop-left in
-    let r = c.args.r in
-    rw c.record_size-w.ensures (one_fits r k.left k.p.now c.loop-left-test.true k.invariant.0, one_fits r k.left k.q.now c.loop-left-test.true k.invariant.1)) in
-    let same_test : let r = c.args.r in c.record_alike.result ≡ alike_member (member_of r c.loop-left.p.now) (member_of r c.loop-left.q.now) = (
-    let r = c.args.r in
-    let w = c.record_size-w.ensures in
-    c.record_alike.ensures ∙ ap₂ alike_member (member_part r _ c.loop-left.p.now w one.0) (member_part r _ c.loop-left.q.now w one.1)) in
-    let k = c.loop-left in
-    let r = c.args.r in
-    let w = c.record_size-w.ensures in (
-      rw (part_from, w) (rest_fits r k.left k.p.now c.loop-left-test.true k.invariant.0),
-      rw (part_from, w) (rest_fits r k.left k.q.now c.loop-left-test.true k.invariant.1),
-      rw (part_from _ k.p.now, part_from _ k.q.now, w)
-          (alike_on r k.left k.p.now k.q.now _ c.loop-left-test.true same_test c.if-record_alike.true ∙ k.invariant.2),
-    )
-
-pub returns-else-record_alike : goal.returns-else-record_alike
-returns-else-record_alike c =
-    let one : (c.record_size-w.result ≤ length c.loop-left.p.now) × (c.record_size-w.result ≤ length c.loop-left.q.now) = (
-    let k = c.loop-left in
-    let r = c.args.r in
-    rw c.record_size-w.ensures (one_fits r k.left k.p.now c.loop-left-test.true k.invariant.0, one_fits r k.left k.q.now c.loop-left-test.true k.invariant.1)) in
-    let same_test : let r = c.args.r in c.record_alike.result ≡ alike_member (member_of r c.loop-left.p.now) (member_of r c.loop-left.q.now) = (
-    let r = c.args.r in
-    let w = c.record_size-w.ensures in
-    c.record_alike.ensures ∙ ap₂ alike_member (member_part r _ c.loop-left.p.now w one.0) (member_part r _ c.loop-left.q.now w one.1)) in
-    let k = c.loop-left in
-    unlike_here c.args.r k.left k.p.now k.q.now _ c.loop-left-test.true same_test c.if-record_alike.false ∙ k.invariant.2
+pub loop-u-preserved : goal.loop-u-preserved
+loop-u-preserved c =
+    let k = c.loop-u in
+    let s = c.in-Some.ensures.steps in
+    let o = one_pair c.args.r c.record_size-w.result _ _ _ _ _ _ _ c.record_size-w.ensures s.0.1.0 s.1.1.0 (s.0.1.1 ∙ k.invariant.size.0) (s.1.1.1 ∙ k.invariant.size.1) k.invariant.many.0 k.invariant.many.1 in
+    let j : c.args.n - (length k.yielded + 1) ≡ c.args.n - length k.yielded - 1 = omega arith in record {
+      size = (s.0.0 ∙ k.invariant.size.0, s.1.0 ∙ k.invariant.size.1);
+      many = simp (length-append, j) (o.0, o.1);
+      test = simp (length-append, j) (rw (o.2, ← c.record_alike.ensures, c.if-not-record_alike.false) at k.invariant.test);
+    }
 
 pub returns : goal.returns
 returns c =
-    let k = c.loop-left in
-    let z : k.left ≡ 0 = omega arith in
-    rw z at k.invariant.2
+    let k = c.loop-u in
+    elim c.in-None.ensures.steps [
+      | inl x ↦ none_left c.args.r c.record_size-w.result _ _ _ _ c.record_size-w.ensures (rw k.invariant.size.0 at x.1.1.0) k.invariant.many.0 ∙ k.invariant.test
+      | inr x ↦ none_left c.args.r c.record_size-w.result _ _ _ _ c.record_size-w.ensures (rw k.invariant.size.1 at x.1.1.0) k.invariant.many.1 ∙ k.invariant.test
+    ]

@@ -3,4 +3,4 @@ use Rattle.best_successors.proofs.Laws.{member_count}
 use Rattle.audit.proofs.audit_of.Goals as goal
 
 pub returns : goal.returns
-returns c = rw (c.count_principals-count.ensures.0, c.count_ring-on.ensures.0, c.verdict_of-v.ensures, member_count c.args.t.now)
+returns c = rw (c.count_principals-principals.ensures.0, c.count_ring.ensures.0, c.verdict_of.ensures, member_count c.args.t.now)

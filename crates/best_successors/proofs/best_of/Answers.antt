@@ -25,7 +25,7 @@ returns-then-id_at-l c =
     let sized : length part ≡ get_or c.args.t.now 0 0 = simp (length-take, length-drop) (omega (arith, fits)) in
     let w = first_guessed c.args.t.now c.requires.formed_words part c.place_after-next.result (omega (arith, sized, c.requires.formed_words.r_low))
     c.place_after-next.ensures (sym c.id_at.ensures ∙ c.if-id_at-l.true) in
-    (rw (← is-list) w.0, search rules, rw (← is-list) w.1, search rules)
+    (rw (← is-list) w.0, rw (← is-list) w.1, search rules)
 
 pub returns : goal.returns
 returns c =
@@ -35,4 +35,4 @@ returns c =
     let sized : length part ≡ get_or c.args.t.now 0 0 = simp (length-take, length-drop) (omega (arith, fits)) in
     let t = c.args.t.now in
     let e = c.first_live.ensures in
-    (rw (← is-list) e.0, search rules, rw (← is-list) e.2, omega (arith, e.2, passed_most (members_in t) part, sized))
+    (rw (← is-list) e.0, rw (← is-list) e.1, omega (arith, e.1, passed_most (members_in t) part, sized))

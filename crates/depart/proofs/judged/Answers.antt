@@ -18,8 +18,8 @@ remove_at-requires c =
     let within : c.args.k < get_or c.copy_table.new.a 1 0 = subst (λ (n : ℕ). c.args.k < n) (sym (copied_count c.args.t.now c.copy_table.new.a c.requires.formed_words c.copy_table.ensures.0)) c.requires.k_bound in
     record { formed_words = well; k_bound = within }
 
-pub causes-requires : goal.causes-requires
-causes-requires c =
+pub left-requires : goal.left-requires
+left-requires c =
     let goer = (get_or (ids (members_in c.args.t.now)) c.args.k 0) in
     let same : table_of c.copy_table.new.a ≡ table_of c.args.t.now = copied_table c.args.t.now c.copy_table.new.a c.requires.formed_words c.copy_table.ensures.0 in
     let well : FormedWords c.copy_table.new.a = copied_formed c.args.t.now c.copy_table.new.a c.requires.formed_words c.copy_table.ensures.0 c.copy_table.ensures.1 in
@@ -43,4 +43,4 @@ returns c =
     let x = get_or (ids (members_in a)) c.args.k 0 in
     let k = removed_facts a x well (stands_live well (own_place a c.args.k within)) in
     rw c.remove_at.ensures (k.0, k.1 ∙ ap (λ (T : Table). without (get_or (ids T.members) c.args.k 0) T) same)) in
-    c.causes.ensures ∙ sym (left_causes c.args.t.now c.remove_at.new.t goer c.requires.formed_words present gone.1)
+    rw (left_causes c.args.t.now c.remove_at.new.t goer c.requires.formed_words present gone.1) c.left.ensures

@@ -1,8 +1,6 @@
 -- `field_here` meets its contract. Assumes nothing.
-use mathlib.Core.Bool.{true, false}
-use mathlib.Core.Path.{sym, ◌∙◌}
-use native.Mathlib.Omega.{arith}
-use borrow.Author.Tests.{lt-leb}
+use Rattle.std.proofs.Common.{true, false, sym, ◌∙◌, arith}
+use Rattle.std.proofs.lemmas.Bool.{lt-leb}
 use Rattle.model.specs.Image.{field_stands}
 use Rattle.due.proofs.Due.{stands}
 use Rattle.due.proofs.field_here.Goals as goal
@@ -11,8 +9,8 @@ pub returns-then-image-next : goal.returns-then-image-next
 unfolding field_stands
 returns-then-image-next c = simp (lt-leb _ _ c.if-image-next.true)
 
-pub returns-then-head_is : goal.returns-then-head_is
-returns-then-head_is c = let a = c.args in rw (stands a.image.now a.at a.tag a.len true (omega arith) (sym c.head_is.ensures ∙ c.if-head_is.true))
+pub returns-then-not-head_is : goal.returns-then-not-head_is
+returns-then-not-head_is c = let a = c.args in rw (stands a.image.now a.at a.tag a.len false (omega arith) (sym c.head_is.ensures ∙ c.if-not-head_is.true))
 
 pub returns : goal.returns
-returns c = let a = c.args in rw (stands a.image.now a.at a.tag a.len false (omega arith) (sym c.head_is.ensures ∙ c.if-head_is.false))
+returns c = let a = c.args in rw (stands a.image.now a.at a.tag a.len true (omega arith) (sym c.head_is.ensures ∙ c.if-not-head_is.false)) (cc)

@@ -1,65 +1,25 @@
--- `is_open` meets its contract. The invariant: what was judged and found so far, and the windows from place i on, decide as all do. Assumes nothing.
-use mathlib.Core.Path.{◌≡◌, refl, sym, ap, ◌∙◌}
-use mathlib.Core.List.{[], ◌∷◌}
-use mathlib.Core.Bool.{Bool, true, false, not}
-use borrow.Author.Rules.{rules}
-use lib.ListN.{length}
-use Rattle.model.specs.Lists.{bit}
-use Rattle.model.specs.Refusals.{bad_windows}
-use Rattle.model.specs.Answer.{accepted}
+-- `is_open` meets its contract. The invariant: what was judged and found so far, and the windows that are left, decide as all do. Assumes nothing.
+use Rattle.std.proofs.Common.{sym, ◌∙◌}
 use Rattle.model.specs.Calls.{is_open_answer}
-use Rattle.laws.specs.Windows.{tells_open}
-use Rattle.hours.specs.Ahead.{may_ask}
-use Rattle.hours.proofs.Pass.{right_on, open_on, right_end, open_end}
-use Rattle.hours.proofs.Replies.{may_not, may, judges, windows_refused}
+use Rattle.hours.proofs.Pass.{all_left, right_end, open_end}
+use Rattle.hours.proofs.Replies.{may_not, windows_refused, says_open}
 use Rattle.hours.proofs.is_open.Goals as goal
 
 pub returns-then-not-may_ask : goal.returns-then-not-may_ask
 unfolding is_open_answer
-returns-then-not-may_ask c = let a = c.args in rw (may_not a.ws.now a.m (sym c.may_ask.ensures ∙ c.if-not-may_ask.true))
+returns-then-not-may_ask c = rw (may_not c.args.ws.now c.args.m (sym c.may_ask.ensures ∙ c.if-not-may_ask.true))
 
-pub loop-i-init : goal.loop-i-init
-loop-i-init c = (search rules, refl, refl)
+pub loop-start-init : goal.loop-start-init
+loop-start-init c = let e = all_left c.args.ws.now _ c.as_chunks.ensures.front in record { judged = rw e; told = rw e }
 
-pub loop-i-preserved : goal.loop-i-preserved
-loop-i-preserved c =
-    let a = c.args in
-    let on = c.loop-i-test.true in (
-      search rules,
-      right_on a.ws.now c.loop-i.i on c.loop-i.right c.both-right.ensures c.is_window.ensures ∙ c.loop-i.invariant.1,
-      open_on a.ws.now c.loop-i.i on c.loop-i.found a.m c.either-found.ensures c.holds.ensures ∙ c.loop-i.invariant.2,
-    )
+pub returns-then-right : goal.returns-then-right
+returns-then-right c =
+    let k = c.loop-start in
+    let end = c.loop-start-test.false in
+    says_open c.args.ws.now c.args.m (sym c.may_ask.ensures ∙ c.if-not-may_ask.false) (right_end _ _ end k.right k.invariant.judged ∙ c.if-right.true) k.found (open_end _ _ end k.found _ k.invariant.told)
 
-pub returns-then-not-right : goal.returns-then-not-right
+pub returns-else-right : goal.returns-else-right
 unfolding is_open_answer
-returns-then-not-right c =
-    let asks : let a = c.args in may_ask (length a.ws.now) a.m ≡ true = sym c.may_ask.ensures ∙ c.if-not-may_ask.false in
-    let judged : bad_windows c.args.ws.now ≡ not c.loop-i.right = (
-    let a = c.args in
-    judges a.ws.now a.m asks ∙ ap not (sym c.loop-i.invariant.1 ∙ right_end a.ws.now c.loop-i.i c.loop-i-test.false c.loop-i.right)) in
-    let a = c.args in
-    rw (windows_refused a.ws.now a.m (judged ∙ ap not c.if-not-right.true))
-
-pub returns-then-found : goal.returns-then-found
-returns-then-found c =
-    let asks : let a = c.args in may_ask (length a.ws.now) a.m ≡ true = sym c.may_ask.ensures ∙ c.if-not-may_ask.false in
-    let judged : bad_windows c.args.ws.now ≡ not c.loop-i.right = (
-    let a = c.args in
-    judges a.ws.now a.m asks ∙ ap not (sym c.loop-i.invariant.1 ∙ right_end a.ws.now c.loop-i.i c.loop-i-test.false c.loop-i.right)) in
-    let told : (t : Bool) → let a = c.args in c.loop-i.found ≡ t → is_open_answer a.ws.now a.m ≡ accepted (bit t ∷ []) = (
-    λ (t : Bool) e. let a = c.args in
-    tells_open a.ws.now (judged ∙ ap not c.if-not-right.false) a.m (may a.ws.now a.m asks).0 t
-    (sym c.loop-i.invariant.2 ∙ open_end a.ws.now c.loop-i.i c.loop-i-test.false c.loop-i.found a.m ∙ e)) in
-    sym (told true c.if-found.true)
-
-pub returns : goal.returns
-returns c =
-    let asks : let a = c.args in may_ask (length a.ws.now) a.m ≡ true = sym c.may_ask.ensures ∙ c.if-not-may_ask.false in
-    let judged : bad_windows c.args.ws.now ≡ not c.loop-i.right = (
-    let a = c.args in
-    judges a.ws.now a.m asks ∙ ap not (sym c.loop-i.invariant.1 ∙ right_end a.ws.now c.loop-i.i c.loop-i-test.false c.loop-i.right)) in
-    let told : (t : Bool) → let a = c.args in c.loop-i.found ≡ t → is_open_answer a.ws.now a.m ≡ accepted (bit t ∷ []) = (
-    λ (t : Bool) e. let a = c.args in
-    tells_open a.ws.now (judged ∙ ap not c.if-not-right.false) a.m (may a.ws.now a.m asks).0 t
-    (sym c.loop-i.invariant.2 ∙ open_end a.ws.now c.loop-i.i c.loop-i-test.false c.loop-i.found a.m ∙ e)) in
-    sym (told false c.if-found.false)
+returns-else-right c =
+    let k = c.loop-start in
+    rw (windows_refused c.args.ws.now c.args.m (sym c.may_ask.ensures ∙ c.if-not-may_ask.false) (right_end _ _ c.loop-start-test.false k.right k.invariant.judged ∙ c.if-right.false))

@@ -1,17 +1,20 @@
--- `is_ideal` meets its contract. The invariant: the members from place k on answer as all do. Assumes nothing.
-use mathlib.Core.Path.{sym, ◌∙◌}
-use native.Mathlib.Omega.{arith}
-use Rattle.ideal.proofs.Laws.{from_first, wrong_here, right_here, none_left}
+-- `is_ideal` meets its contract. Assumes nothing.
+use Prim.Native.Nat.{◌<◌}
+use mathlib.Core.Path.{◌≡◌}
+use mathlib.Core.Bool.{true, false}
+use borrow.Author.Rules.{rules}
+use borrow.Author.Tests.{tests}
+use lib.ListN.{get_or}
+use Rattle.std.proofs.lemmas.Iterator.{cases_from_all, YieldsList-from_range}
+use Rattle.model.specs.Table.{members_in, ids}
+use Rattle.model.specs.Ring.{nobody, ideal_member}
+use Rattle.ideal.proofs.Laws.{told}
 use Rattle.ideal.proofs.is_ideal.Goals as goal
 
-pub loop-k-init : goal.loop-k-init
-loop-k-init c = (omega arith, from_first c.args.t.now)
-
-pub loop-k-preserved : goal.loop-k-preserved
-loop-k-preserved c = (omega arith, right_here c.args.t.now c.loop-k.k c.loop-k-test.true (sym c.member_ideal.ensures ∙ c.if-member_ideal.true) ∙ c.loop-k.invariant.1)
-
-pub returns-else-member_ideal : goal.returns-else-member_ideal
-returns-else-member_ideal c = wrong_here c.args.t.now c.loop-k.k c.loop-k-test.true (sym c.member_ideal.ensures ∙ c.if-member_ideal.false) ∙ c.loop-k.invariant.1
-
 pub returns : goal.returns
-returns c = none_left c.args.t.now c.loop-k.k c.loop-k-test.false ∙ c.loop-k.invariant.1
+returns c =
+    let t = c.args.t.now in
+    let ms = members_in t in
+    told t c.all.result (cases_from_all _ _ _
+    (λ k. k < get_or t 1 0 → ideal_member (get_or t 0 0) (ids ms) (get_or ms k nobody) ≡ true) (λ k. k < get_or t 1 0 → ideal_member (get_or t 0 0) (ids ms) (get_or ms k nobody) ≡ false)
+    c.all.ensures.ran (YieldsList-from_range 0 (get_or t 1 0) (get_or t 1 0) (search rules) (search rules)) (λ x q k. search (rules, tests)) (λ x q k. search (rules, tests)))

@@ -1,64 +1,43 @@
 -- `read_fields` meets its contract. The loop's invariant: the records that are left, placed from at on, give the whole. Assumes nothing.
-use Prim.Native.Nat.{ℕ, ◌+◌, ◌*◌, ◌-◌, ◌≤◌}
-use mathlib.Core.Path.{◌≡◌, sym, ap, ◌∙◌}
-use native.Mathlib.Omega.{arith}
-use lib.ListN.{length, length-drop}
-use lib.Seq.{length-take-le}
-use Rattle.model.specs.Image.{field_members}
-use Rattle.model.specs.Table.{record_size, records_of}
+use Rattle.std.proofs.Common.{◌≡◌, ◌+◌, ◌*◌, ◌-◌, sym, ◌∙◌, arith, length, length-append, length-take-le, rules}
+use Rattle.model.specs.Table.{record_size}
 use Rattle.laws.specs.Bytes.{field_size}
-use Rattle.laws.specs.Parts.{part_from, one_of}
 use Rattle.octets.proofs.Placed.{placed_none}
-use Rattle.octets.specs.Placed.{placed}
-use Rattle.image.proofs.Loops.{one_more_record}
+use Rattle.image.proofs.Loops.{one_more_record, still_fit, nothing_left, fields_front}
 use Rattle.image.proofs.read_fields.Goals as goal
 
-pub slice_bounds-read_field-end : goal.slice_bounds-read_field-end
-slice_bounds-read_field-end c =
-    let sized : c.field_size-w.result ≡ field_size c.args.r = c.field_size-w.ensures c.args.r c.record_size-s.ensures in
-    let one_left : c.field_size-w.result ≤ length c.loop-left.p.now = omega (arith, sized, one_of c.loop-left.left (field_size c.args.r) c.loop-left-test.true) in
-    sym (length-take-le _ _ one_left)
+pub loop-part-init : goal.loop-part-init
+loop-part-init c =
+    let a = c.args in
+    let z : a.n - 0 ≡ a.n = omega arith in
+    let g = c.chunks_exact-part-items.ensures in
+    let e = rw (← c.into_iter-part-iterator.ensures.into_iter_gives) at g.rest in
+    let d = rw (← c.into_iter-part-iterator.ensures.into_iter_gives) at g.size in
+    let w = c.member_length-w.ensures in record {
+      size = rw w at d;
+      many = rw (e, z, w) (length-take-le (a.n * field_size a.r) a.f.now c.requires.1);
+      fits = rw z c.requires.2;
+      test = rw (e, z, w, fields_front a.r a.n a.f.now c.requires.1);
+    }
 
-pub read_field-requires : goal.read_field-requires
-read_field-requires c =
-    let sized : c.field_size-w.result ≡ field_size c.args.r = c.field_size-w.ensures c.args.r c.record_size-s.ensures in
-    let one_left : c.field_size-w.result ≤ length c.loop-left.p.now = omega (arith, sized, one_of c.loop-left.left (field_size c.args.r) c.loop-left-test.true) in
-    let one_fits : c.loop-left.at + record_size c.args.r ≤ length c.loop-left.t = omega (arith, one_of c.loop-left.left (record_size c.args.r) c.loop-left-test.true) in
-    (omega arith, length-take-le _ _ one_left ∙ sized, one_fits)
-
-pub slice_bounds-p-count : goal.slice_bounds-p-count
-slice_bounds-p-count c =
-    let sized : c.field_size-w.result ≡ field_size c.args.r = c.field_size-w.ensures c.args.r c.record_size-s.ensures in
-    let one_left : c.field_size-w.result ≤ length c.loop-left.p.now = omega (arith, sized, one_of c.loop-left.left (field_size c.args.r) c.loop-left-test.true) in
-    one_left
-
-pub slice_bounds-p-start : goal.slice_bounds-p-start
-slice_bounds-p-start c =
-    let sized : c.field_size-w.result ≡ field_size c.args.r = c.field_size-w.ensures c.args.r c.record_size-s.ensures in
-    let one_left : c.field_size-w.result ≤ length c.loop-left.p.now = omega (arith, sized, one_of c.loop-left.left (field_size c.args.r) c.loop-left-test.true) in
-    one_left
-
-pub loop-left-preserved : goal.loop-left-preserved
-loop-left-preserved c =
-    let sized : c.field_size-w.result ≡ field_size c.args.r = c.field_size-w.ensures c.args.r c.record_size-s.ensures in
-    let k = c.loop-left in
+pub loop-part-preserved : goal.loop-part-preserved
+loop-part-preserved c =
+    let k = c.loop-part in
     let r = c.args.r in
-    let f = sized in
-    let w = c.record_size-s.ensures in
-    let wrote = c.read_field in
-    let n : length wrote.new.t ≡ length k.t = c.t-1.given in
-    let l : (k.left - 1) * field_size r ≤ length k.p.now - field_size r = omega (arith, one_of k.left (field_size r) c.loop-left-test.true) in
-    let u : k.at + record_size r + (k.left - 1) * record_size r ≤ length wrote.new.t = omega (arith, one_of k.left (record_size r) c.loop-left-test.true) in (
-      rw (part_from, length-drop, f) l,
-      omega (arith, u),
-      n ∙ k.invariant.2,
-      rw part_from (one_more_record k.at r k.left _ _ w f c.loop-left-test.true k.p.now k.t wrote.new.t (omega arith) wrote.ensures
-          ∙ k.invariant.3),
-    )
+    let s = c.in-Some.ensures.steps in
+    let l = s.1.1 ∙ k.invariant.size in
+    let o = one_more_record k.at r _ _ _ _ k.t _ s.1.0 l k.invariant.many (omega (arith, k.invariant.fits)) c.read_field.ensures in
+    let f = still_fit (c.args.n - length k.yielded) (field_size r) _ _ _ s.1.0 l k.invariant.many (omega arith) k.at (record_size r) (length k.t) k.invariant.fits in
+    let j : c.args.n - (length k.yielded + 1) ≡ c.args.n - length k.yielded - 1 = omega arith in
+    let m : length c.read_field.new.t ≡ length k.t = search rules in record {
+      size = s.0 ∙ k.invariant.size;
+      many = simp (length-append, j) o.0;
+      fits = simp (length-append, j) (rw (c.record_size-at.ensures, m) f);
+      test = simp (length-append, j) (rw c.record_size-at.ensures (o.1 ∙ k.invariant.test));
+    }
 
 pub returns : goal.returns
 returns c =
-    let k = c.loop-left in
-    let r = c.args.r in
-    let z : k.left ≡ 0 = omega arith in
-    sym (placed_none k.at k.t) ∙ ap (λ (n : ℕ). placed k.at (records_of (field_members r n k.p.now)) k.t) (sym z) ∙ k.invariant.3
+    let k = c.loop-part in
+    let z = nothing_left (c.args.n - length k.yielded) _ _ (rw k.invariant.size at c.in-None.ensures.steps.1.0) k.invariant.many in
+    sym (placed_none k.at k.t) ∙ (rw z at k.invariant.test)

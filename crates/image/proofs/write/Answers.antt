@@ -8,40 +8,34 @@ use Rattle.image.proofs.write.Goals as goal
 
 pub bounds-t-0 : goal.bounds-t-0
 bounds-t-0 c =
-    let known : FormedWords c.args.t.now = formed_words c.args.t.now (sym c.well_formed-2.ensures ∙ c.if-well_formed.true) in
+    let known : FormedWords c.args.t.now = formed_words c.args.t.now (sym c.well_formed-2.ensures ∙ c.if-not-well_formed.false) in
     let f = known in omega arith
-
-pub overflow_cast-t : goal.overflow_cast-t
-overflow_cast-t c = omega (arith, c.shared_slice_known-then-well_formed-1.given 0)
 
 pub bounds-t-1 : goal.bounds-t-1
 bounds-t-1 c =
-    let known : FormedWords c.args.t.now = formed_words c.args.t.now (sym c.well_formed-2.ensures ∙ c.if-well_formed.true) in
+    let known : FormedWords c.args.t.now = formed_words c.args.t.now (sym c.well_formed-2.ensures ∙ c.if-not-well_formed.false) in
     let f = known in omega arith
-
-pub overflow_cast-t-then-well_formed : goal.overflow_cast-t-then-well_formed
-overflow_cast-t-then-well_formed c = omega (arith, c.shared_slice_known-then-well_formed-2-1.given 1)
 
 pub image_size-size-requires : goal.image_size-size-requires
 image_size-size-requires c =
-    let known : FormedWords c.args.t.now = formed_words c.args.t.now (sym c.well_formed-2.ensures ∙ c.if-well_formed.true) in
+    let known : FormedWords c.args.t.now = formed_words c.args.t.now (sym c.well_formed-2.ensures ∙ c.if-not-well_formed.false) in
     let f = known in (omega arith, omega arith)
 
 pub returns-then-out-size : goal.returns-then-out-size
 returns-then-out-size c =
-    let known : FormedWords c.args.t.now = formed_words c.args.t.now (sym c.well_formed-2.ensures ∙ c.if-well_formed.true) in
+    let known : FormedWords c.args.t.now = formed_words c.args.t.now (sym c.well_formed-2.ensures ∙ c.if-not-well_formed.false) in
     no_room _ _ known.right (rw (← c.image_size-size.ensures.0) c.if-out-size.true)
 
 pub write_image-requires : goal.write_image-requires
 write_image-requires c =
-    let known : FormedWords c.args.t.now = formed_words c.args.t.now (sym c.well_formed-2.ensures ∙ c.if-well_formed.true) in
+    let known : FormedWords c.args.t.now = formed_words c.args.t.now (sym c.well_formed-2.ensures ∙ c.if-not-well_formed.false) in
     record { formed_words = known; t_in_bounds = rw (← c.image_size-size.ensures.0) c.if-out-size.false }
 
-pub returns-then-well_formed : goal.returns-then-well_formed
-returns-then-well_formed c =
-    let known : FormedWords c.args.t.now = formed_words c.args.t.now (sym c.well_formed-2.ensures ∙ c.if-well_formed.true) in
+pub returns : goal.returns
+returns c =
+    let known : FormedWords c.args.t.now = formed_words c.args.t.now (sym c.well_formed-2.ensures ∙ c.if-not-well_formed.false) in
     written _ _ known.right c.image_size-size.result _ c.image_size-size.ensures.0 c.if-out-size.false
     c.write_image.ensures
 
-pub returns : goal.returns
-returns c = no_table _ _ (sym c.well_formed-2.ensures ∙ c.if-well_formed.false)
+pub returns-then-not-well_formed : goal.returns-then-not-well_formed
+returns-then-not-well_formed c = no_table _ _ (sym c.well_formed-2.ensures ∙ c.if-not-well_formed.true)

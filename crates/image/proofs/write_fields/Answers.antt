@@ -1,73 +1,46 @@
 -- `write_fields` meets its contract. The loop's invariant: the fields that are left, placed from at on, give the whole. Assumes nothing.
-use Prim.Native.Nat.{ℕ, ◌+◌, ◌*◌, ◌-◌, ◌≤◌}
-use mathlib.Core.Path.{◌≡◌, sym, ap, ◌∙◌}
-use native.Mathlib.Omega.{arith}
-use lib.ListN.{length}
-use lib.Seq.{length-take-le}
-use Rattle.model.specs.Image.{member_fields}
-use Rattle.model.specs.Table.{members_of}
+use Rattle.std.proofs.Common.{◌≡◌, ℕ, ◌+◌, ◌*◌, ◌-◌, sym, ap, ◌∙◌, arith, length, length-append, length-take-le, rules}
+use Rattle.model.specs.Table.{record_size}
 use Rattle.laws.specs.Bytes.{field_size}
-use Rattle.laws.specs.Parts.{part_from, one_of, one_fits, rest_fits}
 use Rattle.octets.proofs.Placed.{placed_none}
-use Rattle.octets.specs.Placed.{placed}
-use Rattle.image.proofs.Loops.{one_more_field}
+use Rattle.image.proofs.Loops.{front, one_more_field, still_fit, nothing_left}
 use Rattle.image.proofs.write_fields.Goals as goal
 
-pub slice_bounds-write_field-end : goal.slice_bounds-write_field-end
-slice_bounds-write_field-end c =
-    let one_left : c.record_size-w.result ≤ length c.loop-left.p.now = (
-    let k = c.loop-left in
-    rw c.record_size-w.ensures (one_fits c.args.r k.left k.p.now c.loop-left-test.true k.invariant.0)) in
-    sym (length-take-le _ _ one_left)
+pub loop-part-init : goal.loop-part-init
+loop-part-init c =
+    let a = c.args in
+    let z : a.n - 0 ≡ a.n = omega arith in
+    let g = c.chunks_exact-part-items.ensures in
+    let e = rw (← c.into_iter-part-iterator.ensures.into_iter_gives) at g.rest in
+    let d = rw (← c.into_iter-part-iterator.ensures.into_iter_gives) at g.size in
+    let w = c.record_size-w.ensures in record {
+      size = d;
+      many = rw (e, z, w) (length-take-le (a.n * record_size a.r) a.ws.now c.requires.1);
+      fits = rw z c.requires.2;
+      test = rw (e, z, w, front a.r a.n a.ws.now c.requires.1);
+    }
 
-pub write_field-requires : goal.write_field-requires
-write_field-requires c =
-    let one_left : c.record_size-w.result ≤ length c.loop-left.p.now = (
-    let k = c.loop-left in
-    rw c.record_size-w.ensures (one_fits c.args.r k.left k.p.now c.loop-left-test.true k.invariant.0)) in
-    let field_fits : c.loop-left.at + field_size c.args.r ≤ length c.loop-left.out = omega (arith, one_of c.loop-left.left (field_size c.args.r) c.loop-left-test.true) in
-    (omega arith, length-take-le _ _ one_left ∙ c.record_size-w.ensures, field_fits)
-
-pub slice_bounds-p-count : goal.slice_bounds-p-count
-slice_bounds-p-count c =
-    let one_left : c.record_size-w.result ≤ length c.loop-left.p.now = (
-    let k = c.loop-left in
-    rw c.record_size-w.ensures (one_fits c.args.r k.left k.p.now c.loop-left-test.true k.invariant.0)) in
-    one_left
-
-pub slice_bounds-p-start : goal.slice_bounds-p-start
-slice_bounds-p-start c =
-    let one_left : c.record_size-w.result ≤ length c.loop-left.p.now = (
-    let k = c.loop-left in
-    rw c.record_size-w.ensures (one_fits c.args.r k.left k.p.now c.loop-left-test.true k.invariant.0)) in
-    one_left
-
-pub overflow_add-at : goal.overflow_add-at
-overflow_add-at c =
-    let sized : c.field_size-b.result ≡ field_size c.args.r = c.field_size-b.ensures c.args.r c.record_size-w.ensures in
-    let field_fits : c.loop-left.at + field_size c.args.r ≤ length c.loop-left.out = omega (arith, one_of c.loop-left.left (field_size c.args.r) c.loop-left-test.true) in
-    omega (arith, sized, field_fits)
-
-pub loop-left-preserved : goal.loop-left-preserved
-loop-left-preserved c =
-    let sized : c.field_size-b.result ≡ field_size c.args.r = c.field_size-b.ensures c.args.r c.record_size-w.ensures in
-    let k = c.loop-left in
+pub loop-part-preserved : goal.loop-part-preserved
+loop-part-preserved c =
+    let k = c.loop-part in
     let r = c.args.r in
-    let f = sized in
     let w = c.record_size-w.ensures in
-    let wrote = c.write_field in
-    let n : length wrote.new.out ≡ length k.out = c.out-1.given in
-    let u : k.at + field_size r + (k.left - 1) * field_size r ≤ length wrote.new.out = omega (arith, one_of k.left (field_size r) c.loop-left-test.true) in (
-      rw (part_from, w) (rest_fits r k.left k.p.now c.loop-left-test.true k.invariant.0),
-      omega (arith, u),
-      n ∙ k.invariant.2,
-      rw part_from (one_more_field k.at r k.left _ _ w f c.loop-left-test.true k.p.now k.out wrote.new.out k.invariant.0 (omega arith)
-          wrote.ensures ∙ k.invariant.3),
-    )
+    let s = c.in-Some.ensures.steps in
+    let l = s.1.1 ∙ k.invariant.size in
+    let b : 3 + c.member_length.result ≡ field_size r = ap (λ (x : ℕ). 3 + x) c.member_length.ensures in
+    let o = one_more_field k.at r _ c.record_size-w.result _ _ _ k.out _ w s.1.0 l k.invariant.many (omega (arith, k.invariant.fits)) c.write_field.ensures in
+    let f = still_fit (c.args.n - length k.yielded) c.record_size-w.result _ _ _ s.1.0 l k.invariant.many (omega arith) k.at (field_size r) (length k.out) k.invariant.fits in
+    let j : c.args.n - (length k.yielded + 1) ≡ c.args.n - length k.yielded - 1 = omega arith in
+    let m : length c.write_field.new.out ≡ length k.out = search rules in record {
+      size = s.0 ∙ k.invariant.size;
+      many = simp (length-append, j) o.0;
+      fits = simp (length-append, j) (rw (b, m) f);
+      test = simp (length-append, j) (rw b (o.1 ∙ k.invariant.test));
+    }
 
 pub returns : goal.returns
 returns c =
-    let k = c.loop-left in
+    let k = c.loop-part in
     let r = c.args.r in
-    let z : k.left ≡ 0 = omega arith in
-    sym (placed_none k.at k.out) ∙ ap (λ (n : ℕ). placed k.at (member_fields (members_of r n k.p.now)) k.out) (sym z) ∙ k.invariant.3
+    let z = nothing_left (c.args.n - length k.yielded) _ _ (rw k.invariant.size at c.in-None.ensures.steps.1.0) k.invariant.many in
+    sym (placed_none k.at k.out) ∙ (rw z at k.invariant.test)

@@ -1,12 +1,11 @@
 -- `admitted` meets its contract: the joiner is inserted at its place. Assumes nothing.
 use mathlib.Core.Path.{◌≡◌, sym, ap, ◌∙◌}
 use Prim.Native.Nat.{ℕ}
-use mathlib.Core.List.{List, [], ◌∷◌}
+use mathlib.Core.List.{List}
 use native.Mathlib.Omega.{arith}
 use lib.ListN.{get_or, drop}
 use Rattle.model.specs.Table.{Member, header_size, members_in, table_of, ids}
 use Rattle.model.specs.Ring.{live}
-use Rattle.model.specs.Answer.{accepted}
 use Rattle.model.specs.Steps.{inserted, joined, with_members}
 use Rattle.model.specs.Calls.{written}
 use Rattle.laws.specs.Accepted.{has_room}
@@ -33,4 +32,4 @@ returns c =
     let left : let a = c.args in c.insert_at.new.t ≡ written (joined a.j a.p (table_of a.t.now)) a.t.now = (
     let ws = c.args.t.now in
     c.insert_at.ensures ∙ ap (λ (m : Member). written (with_members (inserted m (members_in ws)) (table_of ws)) ws) c.joiner-m.ensures) in
-    (ap (λ (l : List ℕ). accepted (get_or l 1 0 ∷ [])) left, left)
+    (ap (λ (l : List ℕ). get_or l 1 0) left, left)

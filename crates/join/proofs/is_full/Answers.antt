@@ -12,8 +12,8 @@ returns-then-n-ge256 c =
     let ws = c.args.t.now in
     rw (members_length (get_or ws 0 0) (get_or ws 1 0) (drop header_size ws), le-leb _ _ c.if-n-ge256.true)
 
-pub returns : goal.returns
+pub returns-else-n-ge256 : goal.returns-else-n-ge256
 unfolding full
-returns c =
+returns-else-n-ge256 c =
     let ws = c.args.t.now in
     rw (members_length (get_or ws 0 0) (get_or ws 1 0) (drop header_size ws), lt-leb _ _ c.if-n-ge256.false, c.offset.ensures.0, c.record_size.ensures)

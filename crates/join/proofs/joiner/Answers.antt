@@ -8,4 +8,4 @@ use Rattle.join.proofs.joiner.Goals as goal
 pub returns : goal.returns
 returns c =
     let a = c.args in
-    ap (λ (m : Member). with_successors m.successors (joiner (members_in a.t.now) a.j a.p)) (c.member_at-m.ensures ∙ stands_named c.requires.formed_words c.requires.stands)
+    ap (λ (m : Member). with_successors m.successors (joiner (members_in a.t.now) a.j a.p)) (c.member_at.ensures ∙ stands_named c.requires.formed_words c.requires.stands)

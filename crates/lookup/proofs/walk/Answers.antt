@@ -1,43 +1,64 @@
--- `walk` meets its contract. The loop's invariant: the answer from the member stood at, with the moves made and the entries passed over, is the
--- whole answer. Assumes nothing.
-use mathlib.Core.Path.{sym, ◌∙◌}
+-- `walk` meets its contract. Assumes nothing.
+use Prim.Native.Nat.{ℕ, ◌<◌}
+use mathlib.Core.Path.{◌≡◌, refl, sym, ◌∙◌}
+use mathlib.Core.List.{List}
 use native.Mathlib.Omega.{arith}
 use borrow.Author.Rules.{rules}
 use borrow.Author.Tests.{eq-eqb, ne_eqb}
 use lib.Dec.{eqb}
 use lib.ListN.{get_or}
+use Rattle.std.proofs.Common.{Some, None}
 use Rattle.model.specs.Table.{members_in, ids}
+use Rattle.model.specs.Ring.{nobody, passed_by}
 use Rattle.laws.specs.Lists.{true_or}
+use Rattle.table.specs.FormedWords.{FormedWords}
+use Rattle.best_successors.specs.Places.{next_place, at_place}
+use Rattle.best_successors.proofs.Laws.{some_at, none_at}
 use Rattle.lookup.proofs.Laws.{WalkStep, walk_start, walk_end, walk_stuck, walk_owned, walk_on}
 use Rattle.lookup.proofs.walk.Goals as goal
+use Rattle.lookup.proofs.walk.Goals.{then-k-owner-via-then-k-owner, then-k-owner-via-else-k-owner+then-between}
+
+-- a move of the walk, from place `at` of the member q
+module _ (ws : List ℕ) (at q p moves : ℕ) (f : FormedWords ws) (stands : at < get_or ws 1 0) (id : q ≡ get_or (ids (members_in ws)) at 0)
+    (passed : p ≡ passed_by (members_in ws) (get_or (members_in ws) at nobody)) (going : moves < get_or ws 1 0) where
+  move_to : (next : ℕ) → next ≡ next_place (members_in ws) at → WalkStep ws at next q p moves
+  move_to next e = record { formed = f; stands = stands; id = id; next_place_law = e; behind = passed; going = going }
 
 pub loop-moves-init : goal.loop-moves-init
 loop-moves-init c =
-    let a = c.args in
-    (search rules, c.id_at-q.ensures, search rules, search rules, rw c.id_at-q.ensures (walk_start a.t.now (get_or (ids (members_in a.t.now)) a.start 0) a.k))
+    let a = c.args in record {
+      within = c.requires.start_bound;
+      id = c.id_at-at.ensures;
+      few = omega arith;
+      same = rw c.id_at-at.ensures (walk_start a.t.now (get_or (ids (members_in a.t.now)) a.start 0) a.k);
+    }
 
-pub returns-then-n-at : goal.returns-then-n-at
-returns-then-n-at c =
-    let walk_step : WalkStep c.args.t.now c.loop-moves.at c.best_of-s.result.place c.loop-moves.q c.best_of-s.result.passed c.loop-moves.moves = record { formed = c.requires.formed_words; stands = c.loop-moves.invariant.0; id = c.loop-moves.invariant.1; next_place_law = c.best_of-s.ensures.0; behind = c.best_of-s.ensures.2; going = c.loop-moves-test.true } in
-    walk_stuck walk_step c.args.k c.loop-moves.passed c.if-n-at.true ∙ c.loop-moves.invariant.4
+pub returns-in_default : goal.returns-in_default
+returns-in_default c =
+    let l = c.loop-moves in
+    let m = move_to c.args.t.now l.place l.at _ l.moves c.requires.formed_words l.invariant.within l.invariant.id c.best_of-best.ensures.1 c.loop-moves-test.true _ refl in
+    walk_stuck m c.args.k l.passed (none_at (sym c.in_default.is ∙ c.best_of-best.ensures.0)) ∙ l.invariant.same
 
-pub returns-then-k-b : goal.returns-then-k-b
-returns-then-k-b c =
-    let walk_step : WalkStep c.args.t.now c.loop-moves.at c.best_of-s.result.place c.loop-moves.q c.best_of-s.result.passed c.loop-moves.moves = record { formed = c.requires.formed_words; stands = c.loop-moves.invariant.0; id = c.loop-moves.invariant.1; next_place_law = c.best_of-s.ensures.0; behind = c.best_of-s.ensures.2; going = c.loop-moves-test.true } in
-    walk_owned walk_step c.args.k c.loop-moves.passed c.if-n-at.false c.id_at-b.ensures (rw (eq-eqb c.args.k c.id_at-b.result c.if-k-b.true)) ∙ c.loop-moves.invariant.4
-
-pub returns-then-between : goal.returns-then-between
-returns-then-between c =
-    let walk_step : WalkStep c.args.t.now c.loop-moves.at c.best_of-s.result.place c.loop-moves.q c.best_of-s.result.passed c.loop-moves.moves = record { formed = c.requires.formed_words; stands = c.loop-moves.invariant.0; id = c.loop-moves.invariant.1; next_place_law = c.best_of-s.ensures.0; behind = c.best_of-s.ensures.2; going = c.loop-moves-test.true } in
-    walk_owned walk_step c.args.k c.loop-moves.passed c.if-n-at.false c.id_at-b.ensures
-    (true_or (eqb c.args.k c.id_at-b.result) (sym c.between.ensures ∙ c.if-between.true)) ∙ c.loop-moves.invariant.4
+pub returns-then-k-owner : goal.returns-then-k-owner
+returns-then-k-owner c =
+    let l = c.loop-moves in
+    let s = some_at (sym c.in-Some.is ∙ c.best_of-best.ensures.0) in
+    let m = move_to c.args.t.now l.place l.at _ l.moves c.requires.formed_words l.invariant.within l.invariant.id c.best_of-best.ensures.1 c.loop-moves-test.true _ s.0 in
+    let within : c.in-Some.next < get_or c.args.t.now 1 0 = omega (arith, s.0, s.1) in
+    elim c.then-k-owner.branch [
+      | then-k-owner-via-then-k-owner w ↦ walk_owned m c.args.k l.passed within c.id_at-owner.ensures (rw (eq-eqb c.args.k c.id_at-owner.result w.if-k-owner.true)) ∙ l.invariant.same
+      | then-k-owner-via-else-k-owner+then-between w ↦
+          walk_owned m c.args.k l.passed within c.id_at-owner.ensures (true_or (eqb c.args.k c.id_at-owner.result) (sym w.between.ensures ∙ w.if-between.true)) ∙ l.invariant.same
+    ]
 
 pub loop-moves-preserved : goal.loop-moves-preserved
 loop-moves-preserved c =
-    let walk_step : WalkStep c.args.t.now c.loop-moves.at c.best_of-s.result.place c.loop-moves.q c.best_of-s.result.passed c.loop-moves.moves = record { formed = c.requires.formed_words; stands = c.loop-moves.invariant.0; id = c.loop-moves.invariant.1; next_place_law = c.best_of-s.ensures.0; behind = c.best_of-s.ensures.2; going = c.loop-moves-test.true } in
-    let on = walk_on walk_step c.args.k c.loop-moves.passed c.if-n-at.false c.id_at-b.ensures
-    (rw (ne_eqb c.args.k c.id_at-b.result c.if-k-b.false, ← c.between.ensures, c.if-between.false)) in
-    (c.if-n-at.false, c.id_at-b.ensures, omega arith, omega arith, on ∙ c.loop-moves.invariant.4)
+    let l = c.loop-moves in
+    let s = some_at (sym c.in-Some.is ∙ c.best_of-best.ensures.0) in
+    let m = move_to c.args.t.now l.place l.at _ l.moves c.requires.formed_words l.invariant.within l.invariant.id c.best_of-best.ensures.1 c.loop-moves-test.true _ s.0 in
+    let within : c.in-Some.next < get_or c.args.t.now 1 0 = omega (arith, s.0, s.1) in
+    let on = walk_on m c.args.k l.passed within c.id_at-owner.ensures (rw (ne_eqb c.args.k c.id_at-owner.result c.if-k-owner.false, ← c.between.ensures, c.if-between.false)) in
+    record { within = within; id = c.id_at-owner.ensures; few = omega arith; same = on ∙ l.invariant.same }
 
 pub returns : goal.returns
-returns c = walk_end c.args.t.now c.args.k c.loop-moves.q c.loop-moves.moves c.loop-moves.passed c.loop-moves-test.false ∙ c.loop-moves.invariant.4
+returns c = let l = c.loop-moves in walk_end c.args.t.now c.args.k l.at l.moves l.passed c.loop-moves-test.false ∙ l.invariant.same

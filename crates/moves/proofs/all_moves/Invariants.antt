@@ -1,5 +1,4 @@
 -- `all_moves` meets its contract. The loop's invariant: the numbers so far are right. Assumes nothing.
-use Prim.Native.Nat.{◌-◌, ◌≤◌}
 use mathlib.Core.Path.{◌≡◌}
 use lib.ListN.{length}
 use Rattle.model.specs.Table.{members_in}
@@ -9,7 +8,4 @@ use Rattle.moves.specs.Ways.{AllSoFar}
 use Rattle.moves.proofs.all_moves.Given as goal
 
 abbrev pub invariant-loop-k : goal.invariant-loop-k
-invariant-loop-k l = (l.k ≤ l.n) × (length l.a ≡ 256) × Each (members_in l.t) (moves_to_ring (members_in l.t)) l.k l.a × AllSoFar l.t l.found
-
-abbrev pub decreases-loop-k : goal.decreases-loop-k
-decreases-loop-k l = l.n - l.k
+invariant-loop-k l = (length l.a ≡ 256) × Each (members_in l.t) (moves_to_ring (members_in l.t)) l.k l.a × AllSoFar l.t l.found

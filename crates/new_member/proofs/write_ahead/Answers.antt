@@ -1,6 +1,5 @@
 -- `write_ahead` meets its contract. Assumes nothing.
-use mathlib.Core.Path.{◌∙◌}
-use lib.ListN.{get_or, length-set}
+use lib.ListN.{get_or}
 use Rattle.new_member.proofs.Members.{eight_ahead, ahead_record, ahead_behind}
 use Rattle.new_member.proofs.write_ahead.Goals as goal
 
@@ -10,6 +9,3 @@ returns c =
     let x = get_or a.xs.now a.i 0 in
     let all = eight_ahead a.xs.now a.part.now _ _ a.i c.requires.0 c.requires.1 c.write_front.ensures c.write_eight.ensures in
     (ahead_record a.xs.now _ a.part.now a.r x c.requires.2 all c.requires.3, ahead_behind a.xs.now _ a.part.now a.r x c.requires.2 all)
-
-pub shape_of-part : goal.shape_of-part
-shape_of-part c = simp length-set (c.part-2-1.given.1 ∙ c.part-1.given)

@@ -1,37 +1,19 @@
 -- `word` meets its contract. Assumes nothing.
-use mathlib.Core.Path.{sym, ◌∙◌}
-use Rattle.part.specs.Part.{later_of}
-use Rattle.script.specs.Lines.{word_of}
+use Rattle.std.proofs.Common.{rules, tests, [], ◌∷◌, ◌∙◌, sym}
+use Rattle.std.specs.Str.{bytes_eq}
+use Rattle.std.proofs.lemmas.Iterator.{YieldsList-from_slice}
+use Rattle.std.proofs.lemmas.Iterator.Adapters.{option_map_id}
+use Rattle.std.proofs.lemmas.Iterator.Consumers.{YieldsList-from_copied}
+use Rattle.std.proofs.lemmas.Iterator.Search.{find_from_yields_List}
+use Rattle.script.specs.Lines.{letters, word_of}
+use Rattle.script.specs.declared.Word.TheVariants.{New, Join, Stab, Rect, Out, Drop, Find, Audit}
+use Rattle.part.proofs.Words.{word_found}
 use Rattle.part.proofs.word.Goals as goal
 
-pub returns-then-same : goal.returns-then-same
-unfolding word_of later_of
-returns-then-same c = rw (sym c.same.ensures ∙ c.if-same.true)
-
-pub returns-then-same-2 : goal.returns-then-same-2
-unfolding word_of later_of
-returns-then-same-2 c = rw (sym c.same.ensures ∙ c.if-same.false, sym c.same-2.ensures ∙ c.if-same-2.true)
-
-pub returns-then-same-3 : goal.returns-then-same-3
-unfolding word_of later_of
-returns-then-same-3 c = rw (sym c.same.ensures ∙ c.if-same.false, sym c.same-2.ensures ∙ c.if-same-2.false, sym c.same-3.ensures ∙ c.if-same-3.true)
-
-pub returns-then-same-4 : goal.returns-then-same-4
-unfolding word_of later_of
-returns-then-same-4 c =
-    rw (
-      sym c.same.ensures ∙ c.if-same.false,
-      sym c.same-2.ensures ∙ c.if-same-2.false,
-      sym c.same-3.ensures ∙ c.if-same-3.false,
-      sym c.same-4.ensures ∙ c.if-same-4.true,
-    )
-
 pub returns : goal.returns
-unfolding word_of later_of
+unfolding word_of
 returns c =
-    c.later_word.ensures ∙ rw (
-      sym c.same.ensures ∙ c.if-same.false,
-      sym c.same-2.ensures ∙ c.if-same-2.false,
-      sym c.same-3.ensures ∙ c.if-same-3.false,
-      sym c.same-4.ensures ∙ c.if-same-4.false,
-    )
+    let ws = New ∷ Join ∷ Stab ∷ Rect ∷ Out ∷ Drop ∷ Find ∷ Audit ∷ [] in
+    let p = c.args.p.now in
+    let found = find_from_yields_List (λ w. bytes_eq p (letters w)) _ _ c.find.result c.find.ensures.ran (YieldsList-from_copied (YieldsList-from_slice ws cc)) (λ x b q k. search (rules, tests)) in
+    sym (option_map_id c.find.result) ∙ found ∙ word_found p ws

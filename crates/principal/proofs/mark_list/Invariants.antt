@@ -2,14 +2,11 @@
 -- whole list skips. Assumes nothing.
 use Prim.Native.Nat.{suc}
 use mathlib.Core.Path.{◌≡◌}
-use lib.ListN.{length}
+use lib.ListN.{length, drop}
 use Rattle.model.specs.Table.{members_in, ids}
 use Rattle.table.specs.Rank.{rank}
 use Rattle.principal.proofs.Pairs.{Rest}
 use Rattle.principal.proofs.mark_list.Given as goal
 
-abbrev pub invariant-loop-p : goal.invariant-loop-p
-invariant-loop-p l = (length l.reach ≡ 256) × (l.lo ≡ rank (ids (members_in l.t)) (suc l.q)) × Rest l.t l.initial.reach l.k l.reach l.q l.p
-
-abbrev pub decreases-loop-p : goal.decreases-loop-p
-decreases-loop-p l = length l.p
+abbrev pub invariant-loop-b : goal.invariant-loop-b
+invariant-loop-b l = (length l.reach ≡ 256) × (l.lo ≡ rank (ids (members_in l.t)) (suc l.q)) × Rest l.t l.initial.reach l.k l.reach l.q (drop l.b-index l.b-items)

@@ -1,6 +1,5 @@
 -- `principal_bits` meets its contract. The loop's invariant: the numbers so far are right, `top` is the largest reach so far, and the reaches
 -- from there on are as they were. Assumes nothing.
-use Prim.Native.Nat.{◌-◌, ◌≤◌}
 use mathlib.Core.Path.{◌≡◌}
 use lib.ListN.{length}
 use Rattle.model.specs.Table.{members_in}
@@ -10,7 +9,4 @@ use Rattle.principal.proofs.Reaches.{Top, Unread}
 use Rattle.principal.proofs.principal_bits.Given as goal
 
 abbrev pub invariant-loop-k : goal.invariant-loop-k
-invariant-loop-k l = (l.k ≤ l.n) × (length l.a ≡ 256) × Top l.initial.a l.k l.top × Each (members_in l.t) (principal_bit (members_in l.t)) l.k l.a × Unread l.initial.a l.k l.a
-
-abbrev pub decreases-loop-k : goal.decreases-loop-k
-decreases-loop-k l = l.n - l.k
+invariant-loop-k l = (length l.a ≡ 256) × Top l.initial.a l.k l.top × Each (members_in l.t) (principal_bit (members_in l.t)) l.k l.a × Unread l.initial.a l.k l.a

@@ -1,11 +1,7 @@
 -- `pairs_before` meets its contract. The loop's invariant: the pairs counted and those of the rest of the list are those of the whole list.
 -- Assumes nothing.
-use Prim.Native.Nat.{◌-◌, ◌≤◌}
 use Rattle.principal_test.proofs.Laws.{Counted}
 use Rattle.principal_test.proofs.pairs_before.Given as goal
 
 abbrev pub invariant-loop-i : goal.invariant-loop-i
-invariant-loop-i l = (l.i ≤ l.r) × Counted l.t l.k l.x l.a l.i
-
-abbrev pub decreases-loop-i : goal.decreases-loop-i
-decreases-loop-i l = l.r - l.i
+invariant-loop-i l = Counted l.t l.k l.x l.a l.i

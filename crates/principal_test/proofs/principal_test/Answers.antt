@@ -1,24 +1,23 @@
 -- `principal_test` meets its contract: declined, or the test of n, which is a member. Assumes nothing.
-use mathlib.Core.Path.{sym, ◌∙◌}
+use Rattle.std.proofs.Common.{ap}
+use Rattle.std.proofs.lemmas.Result.{err_from_is_err_and}
+use Rattle.model.specs.Answer.{accepted}
 use Rattle.model.specs.Calls.{principal_answer}
-use Rattle.standing.proofs.Laws.{Called, called, refused, refused_call}
+use Rattle.answers.proofs.Judged.{declined_by}
+use Rattle.standing.proofs.Laws.{called}
 use Rattle.principal_test.proofs.principal_test.Goals as goal
 
+pub returns-in_err-standing_of : goal.returns-in_err-standing_of
+unfolding principal_answer
+returns-in_err-standing_of c =
+    let p = err_from_is_err_and c.from_residual.result c.from_residual.ensures.1 in
+    rw (p.1, p.2) (declined_by _ c.in_err-standing_of.ensures _)
+
 pub test_pairs-requires : goal.test_pairs-requires
-test_pairs-requires c =
-    let granted : let a = c.args in Called a.t.now a.n c.in-At.field-0 = (
-    let a = c.args in called a.t.now a.n c.in-At.field-0 (sym c.in-At.is ∙ c.standing_of.ensures)) in
-    granted.table
+test_pairs-requires c = (called c.args.t.now c.args.n _ c.in_ok-standing_of.ensures).table
 
-pub returns-in-At : goal.returns-in-At
+pub returns : goal.returns
 unfolding principal_answer
-returns-in-At c =
-    let granted : let a = c.args in Called a.t.now a.n c.in-At.field-0 = (
-    let a = c.args in called a.t.now a.n c.in-At.field-0 (sym c.in-At.is ∙ c.standing_of.ensures)) in
-    rw granted.granted c.test_pairs.ensures
-
-pub returns-in-Declined : goal.returns-in-Declined
-unfolding principal_answer
-returns-in-Declined c =
-    let a = c.args in
-    (refused_call (refused a.t.now a.n c.in-Declined.c (sym c.in-Declined.is ∙ c.standing_of.ensures)) _ a.t.now).0
+returns c =
+    let g = called c.args.t.now c.args.n _ c.in_ok-standing_of.ensures in
+    rw g.granted (ap accepted c.test_pairs.ensures)

@@ -3,53 +3,11 @@ use Prim.Native.Nat.{suc, ◌+◌, ◌*◌, ◌≤◌}
 use mathlib.Core.Path.{◌≡◌}
 use native.Mathlib.Nat.{mul-le-mul_right, suc-mul}
 use native.Mathlib.Omega.{arith}
-use lib.ListN.{length, get_or, length-take, length-drop}
+use lib.ListN.{length, get_or}
 use Rattle.model.specs.Table.{record_size, members_in, ids}
 use Rattle.table.proofs.Place.{own_place, stands_at, own_header}
 use Rattle.records.proofs.Edits.{remove_words}
 use Rattle.records.proofs.remove_at.Goals as goal
-
-pub slice_bounds-close_gap-count : goal.slice_bounds-close_gap-count
-slice_bounds-close_gap-count c =
-    let room : let t = c.args.t.now in (c.offset-at.result + c.record_size-w.result ≤ c.offset-end.result) × (c.offset-end.result ≤ length t) = (
-    let t = c.args.t.now in
-    let z = record_size (get_or t 0 0) in
-    let l : suc c.args.k * z ≤ get_or t 1 0 * z = mul-le-mul_right z c.requires.k_bound in
-    let m : suc c.args.k * z ≡ c.args.k * z + z = suc-mul c.args.k z in
-    omega (arith, c.record_size-w.ensures)) in
-    omega (arith, room)
-
-pub slice_bounds-close_gap-start : goal.slice_bounds-close_gap-start
-slice_bounds-close_gap-start c =
-    let room : let t = c.args.t.now in (c.offset-at.result + c.record_size-w.result ≤ c.offset-end.result) × (c.offset-end.result ≤ length t) = (
-    let t = c.args.t.now in
-    let z = record_size (get_or t 0 0) in
-    let l : suc c.args.k * z ≤ get_or t 1 0 * z = mul-le-mul_right z c.requires.k_bound in
-    let m : suc c.args.k * z ≡ c.args.k * z + z = suc-mul c.args.k z in
-    omega (arith, c.record_size-w.ensures)) in
-    let h : c.offset-at.result ≤ length c.args.t.now = omega (arith, room) in
-    h
-
-pub overflow_sub-end : goal.overflow_sub-end
-overflow_sub-end c =
-    let room : let t = c.args.t.now in (c.offset-at.result + c.record_size-w.result ≤ c.offset-end.result) × (c.offset-end.result ≤ length t) = (
-    let t = c.args.t.now in
-    let z = record_size (get_or t 0 0) in
-    let l : suc c.args.k * z ≤ get_or t 1 0 * z = mul-le-mul_right z c.requires.k_bound in
-    let m : suc c.args.k * z ≡ c.args.k * z + z = suc-mul c.args.k z in
-    omega (arith, c.record_size-w.ensures)) in
-    omega (arith, room)
-
-pub close_gap-requires : goal.close_gap-requires
-close_gap-requires c =
-    let room : let t = c.args.t.now in (c.offset-at.result + c.record_size-w.result ≤ c.offset-end.result) × (c.offset-end.result ≤ length t) = (
-    let t = c.args.t.now in
-    let z = record_size (get_or t 0 0) in
-    let l : suc c.args.k * z ≤ get_or t 1 0 * z = mul-le-mul_right z c.requires.k_bound in
-    let m : suc c.args.k * z ≡ c.args.k * z + z = suc-mul c.args.k z in
-    omega (arith, c.record_size-w.ensures)) in
-    let b = room in
-    (omega arith, simp (length-take, length-drop) (omega arith))
 
 pub returns : goal.returns
 returns c =

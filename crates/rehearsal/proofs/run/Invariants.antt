@@ -4,7 +4,7 @@ use Rattle.rehearsal.proofs.Going.{Going}
 use Rattle.rehearsal.proofs.run.Given as goal
 
 abbrev pub invariant-loop-p : goal.invariant-loop-p
-invariant-loop-p l = Going l.s l.initial.t l.initial.out l.t l.out l.p l.n l.at
+invariant-loop-p l = Going l.s l.initial.t l.initial.out l.t l.out l.p l.n
 
 abbrev pub decreases-loop-p : goal.decreases-loop-p
 decreases-loop-p l = length l.p

@@ -12,6 +12,3 @@ pub loop-moves-preserved : goal.loop-moves-preserved
 loop-moves-preserved c =
     let t = c.args.t.now in
     (search rules, c.doubled-a-in-loop-moves.ensures.size, along_twice t c.loop-moves.a c.doubled-a-in-loop-moves.result c.loop-moves.moves c.loop-moves.invariant.2 c.doubled-a-in-loop-moves.ensures)
-
-pub returns : goal.returns
-returns c = let l = c.loop-moves in record { size = l.invariant.1; moves = l.moves; enough = c.loop-moves-test.false; at = l.invariant.2 }

@@ -6,7 +6,6 @@ use lib.ListN.{get_or}
 use lib.Seq.{get_or-take}
 use Rattle.model.specs.Table.{space_of, table_of, members_in}
 use Rattle.model.specs.Ring.{live, named, successor, is_pending}
-use Rattle.model.specs.Answer.{accepted}
 use Rattle.model.specs.Steps.{await_candidate}
 use Rattle.member.specs.View.{view}
 use Rattle.table.proofs.Place.{stands_live, stands_named}
@@ -25,9 +24,9 @@ returns-then-between c =
     let w = view r c.member_at-s.result in
     let t = sym c.between.ensures ∙ c.if-between.true in
     record {
-      leaves = c.await_candidate.ensures r ∙ ap (await_candidate w.predecessor) (c.adopt-a.ensures r c.requires.formed_words.r_low c.requires.formed_words.r_high)
+      leaves = c.await_candidate.ensures r ∙ ap (await_candidate w.predecessor) (c.adopt-member.ensures r c.requires.formed_words.r_low c.requires.formed_words.r_high)
           ∙ better (space_of (table_of c.args.t.now)) ms v w _ head found idle alive t;
-      replies = ap accepted (looks (space_of (table_of c.args.t.now)) ms v w _ head found idle alive t);
+      replies = looks (space_of (table_of c.args.t.now)) ms v w _ head found idle alive t;
     }
 
 pub returns : goal.returns
@@ -42,6 +41,6 @@ returns c =
     let w = view r c.member_at-s.result in
     let t = sym c.between.ensures ∙ c.if-between.false in
     record {
-      leaves = c.adopt-a.ensures r c.requires.formed_words.r_low c.requires.formed_words.r_high ∙ not_better (space_of (table_of c.args.t.now)) ms v w _ head found idle alive t;
-      replies = ap accepted (is_done_law (space_of (table_of c.args.t.now)) ms v w _ head found idle alive t);
+      leaves = c.adopt-member.ensures r c.requires.formed_words.r_low c.requires.formed_words.r_high ∙ not_better (space_of (table_of c.args.t.now)) ms v w _ head found idle alive t;
+      replies = is_done_law (space_of (table_of c.args.t.now)) ms v w _ head found idle alive t;
     }

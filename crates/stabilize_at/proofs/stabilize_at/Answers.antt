@@ -3,7 +3,6 @@ use mathlib.Core.Path.{◌≡◌, sym, ap, ◌∙◌}
 use lib.ListN.{get_or}
 use Rattle.model.specs.Table.{Member, space_of, members_in, table_of, ids}
 use Rattle.model.specs.Ring.{named}
-use Rattle.model.specs.Answer.{accepted}
 use Rattle.model.specs.Steps.{stabilize, stabilize_reply, count_step, replaced, with_members}
 use Rattle.model.specs.Calls.{written}
 use Rattle.member.specs.View.{view}
@@ -20,8 +19,8 @@ replace_at-requires c =
     let space_in = (space_of (table_of c.args.t.now)) in
     let stands : Stands c.args.t.now c.args.k who = own_place c.args.t.now c.args.k c.requires.k_bound in
     let read : let ws = c.args.t.now in view (get_or ws 0 0) c.member_at-m.result ≡ here = c.member_at-m.ensures ∙ stands_named c.requires.formed_words stands in
-    let stepped : let ws = c.args.t.now in view (get_or ws 0 0) c.take_step-o.result.member ≡ stabilize space_in (members_in ws) here = c.take_step-o.ensures.leaves ∙ ap (stabilize space_in (members_in c.args.t.now)) read in
-    let counted : let ws = c.args.t.now in view (get_or ws 0 0) c.count_step-c.result ≡ count_step (stabilize space_in (members_in ws) here) = c.count_step-c.ensures (get_or c.args.t.now 0 0) ∙ ap count_step stepped in
+    let stepped : let ws = c.args.t.now in view (get_or ws 0 0) c.take_step-step.result.member ≡ stabilize space_in (members_in ws) here = c.take_step-step.ensures.leaves ∙ ap (stabilize space_in (members_in c.args.t.now)) read in
+    let counted : let ws = c.args.t.now in view (get_or ws 0 0) c.count_step-n.result ≡ count_step (stabilize space_in (members_in ws) here) = c.count_step-n.ensures (get_or c.args.t.now 0 0) ∙ ap count_step stepped in
     let ms = members_in c.args.t.now in record {
       formed_words = c.requires.formed_words;
       stands = record {
@@ -38,9 +37,9 @@ returns c =
     let stands : Stands c.args.t.now c.args.k who = own_place c.args.t.now c.args.k c.requires.k_bound in
     let read : let ws = c.args.t.now in view (get_or ws 0 0) c.member_at-m.result ≡ here = c.member_at-m.ensures ∙ stands_named c.requires.formed_words stands in
     let space_in = (space_of (table_of c.args.t.now)) in
-    let stepped : let ws = c.args.t.now in view (get_or ws 0 0) c.take_step-o.result.member ≡ stabilize space_in (members_in ws) here = c.take_step-o.ensures.leaves ∙ ap (stabilize space_in (members_in c.args.t.now)) read in
-    let counted : let ws = c.args.t.now in view (get_or ws 0 0) c.count_step-c.result ≡ count_step (stabilize space_in (members_in ws) here) = c.count_step-c.ensures (get_or c.args.t.now 0 0) ∙ ap count_step stepped in
+    let stepped : let ws = c.args.t.now in view (get_or ws 0 0) c.take_step-step.result.member ≡ stabilize space_in (members_in ws) here = c.take_step-step.ensures.leaves ∙ ap (stabilize space_in (members_in c.args.t.now)) read in
+    let counted : let ws = c.args.t.now in view (get_or ws 0 0) c.count_step-n.result ≡ count_step (stabilize space_in (members_in ws) here) = c.count_step-n.ensures (get_or c.args.t.now 0 0) ∙ ap count_step stepped in
     let ws = c.args.t.now in (
-      c.take_step-o.ensures.replies ∙ ap (λ (m : Member). accepted (stabilize_reply (members_in ws) m)) read,
+      c.take_step-step.ensures.replies ∙ ap (stabilize_reply (members_in ws)) read,
       c.replace_at.ensures ∙ ap (λ (m : Member). written (with_members (replaced m (members_in ws)) (table_of ws)) ws) counted,
     )

@@ -1,45 +1,43 @@
 -- `answered` meets its contract: the four texts, one after the other. Assumes nothing.
-use Prim.Native.Nat.{◌+◌, ◌≤◌}
+use Prim.Native.Nat.{ℕ}
 use mathlib.Core.List.{[], ◌∷◌, ◌++◌}
-use lib.ListN.{length}
 use Rattle.answers.specs.Packed.{unpacked}
+use Rattle.model.specs.Answer.{Answer as AnswerOf}
+use Rattle.script.specs.declared.Word.{Word}
 use Rattle.script.specs.Text.{digits, answer_text, answered as answeredOf}
 use Rattle.text.specs.Words.{word_text}
+use Rattle.put.specs.Wrote.{Room, Wrote}
+use Rattle.put.specs.declared.Output.{Output}
 use Rattle.put.proofs.Writing.{wrote_then, room_first, room_then}
+use Rattle.text.proofs.answered.Goals.{After-word}
 use Rattle.text.proofs.answered.Goals as goal
 
-pub number-i-requires : goal.number-i-requires
+-- the room that is left after the number
+after_number : (n : ℕ) (w : Word) (a : AnswerOf) (o m : Output) → Room (answeredOf n w a) o → Wrote (digits n) o m → Room (word_text w ++ (answer_text w a ++ (10 ∷ []))) m
 unfolding answeredOf
-number-i-requires c =
-    room_first (digits c.args.n)
-    (word_text c.args.w ++ (answer_text c.args.w (unpacked c.args.a) ++ (10 ∷ []))) c.args.at _ c.requires.1
+after_number n w a o m = room_then (digits n) (word_text w ++ (answer_text w a ++ (10 ∷ []))) o m
 
-pub word-j-requires : goal.word-j-requires
-unfolding answeredOf
-word-j-requires c =
-    let after-number : c.number-i.result + length (word_text c.args.w ++ (answer_text c.args.w (unpacked c.args.a) ++ (10 ∷ []))) ≤ length c.number-i.new.out = room_then (digits c.args.n) _ c.args.out.now c.number-i.new.out c.args.at c.number-i.result c.requires.1 c.number-i.ensures in
-    let a = c.args in
-    room_first (word_text a.w) (answer_text a.w (unpacked a.a) ++ (10 ∷ [])) c.number-i.result _ after-number
+-- and after the word
+after_word : (c : After-word) → Room (answer_text c.args.w (unpacked c.args.a) ++ (10 ∷ [])) c.word.new.out
+after_word c =
+    let h = after_number c.args.n c.args.w (unpacked c.args.a) c.args.out.now c.number.new.self c.requires.1 c.number.ensures in
+    room_then (word_text c.args.w) (answer_text c.args.w (unpacked c.args.a) ++ (10 ∷ [])) c.number.new.self c.word.new.out h c.word.ensures
 
-pub answer-k-requires : goal.answer-k-requires
+pub number-requires : goal.number-requires
 unfolding answeredOf
-answer-k-requires c =
-    let after-number : c.number-i.result + length (word_text c.args.w ++ (answer_text c.args.w (unpacked c.args.a) ++ (10 ∷ []))) ≤ length c.number-i.new.out = room_then (digits c.args.n) _ c.args.out.now c.number-i.new.out c.args.at c.number-i.result c.requires.1 c.number-i.ensures in
-    let after-word : let a = c.args in c.word-j.result + length (answer_text a.w (unpacked a.a) ++ (10 ∷ [])) ≤ length c.word-j.new.out = (
-    let a = c.args in
-    room_then (word_text a.w) _ c.number-i.new.out c.word-j.new.out c.number-i.result c.word-j.result after-number c.word-j.ensures) in
-    (c.requires.0, room_first (answer_text c.args.w (unpacked c.args.a)) (10 ∷ []) c.word-j.result _ after-word)
+number-requires c = room_first (digits c.args.n) (word_text c.args.w ++ (answer_text c.args.w (unpacked c.args.a) ++ (10 ∷ []))) c.args.out.now c.requires.1
+
+pub word-requires : goal.word-requires
+word-requires c =
+    let h = after_number c.args.n c.args.w (unpacked c.args.a) c.args.out.now c.number.new.self c.requires.1 c.number.ensures in
+    room_first (word_text c.args.w) (answer_text c.args.w (unpacked c.args.a) ++ (10 ∷ [])) c.number.new.self h
+
+pub answer-requires : goal.answer-requires
+answer-requires c = (c.requires.0, room_first (answer_text c.args.w (unpacked c.args.a)) (10 ∷ []) c.word.new.out (after_word (goal.at.answer-requires c).After-word))
 
 pub bytes-requires : goal.bytes-requires
-unfolding answeredOf
-bytes-requires c =
-    let after-number : c.number-i.result + length (word_text c.args.w ++ (answer_text c.args.w (unpacked c.args.a) ++ (10 ∷ []))) ≤ length c.number-i.new.out = room_then (digits c.args.n) _ c.args.out.now c.number-i.new.out c.args.at c.number-i.result c.requires.1 c.number-i.ensures in
-    let after-word : let a = c.args in c.word-j.result + length (answer_text a.w (unpacked a.a) ++ (10 ∷ [])) ≤ length c.word-j.new.out = (
-    let a = c.args in
-    room_then (word_text a.w) _ c.number-i.new.out c.word-j.new.out c.number-i.result c.word-j.result after-number c.word-j.ensures) in
-    let a = c.args in
-    room_then (answer_text a.w (unpacked a.a)) (10 ∷ []) _ _ c.word-j.result c.answer-k.result after-word c.answer-k.ensures
+bytes-requires c = room_then (answer_text c.args.w (unpacked c.args.a)) (10 ∷ []) c.word.new.out c.answer.new.out (after_word (goal.at.bytes-requires c).After-word) c.answer.ensures
 
 pub returns : goal.returns
 unfolding answeredOf
-returns c = wrote_then c.number-i.ensures (wrote_then c.word-j.ensures (wrote_then c.answer-k.ensures c.bytes.ensures))
+returns c = wrote_then c.number.ensures (wrote_then c.word.ensures (wrote_then c.answer.ensures c.bytes.ensures))

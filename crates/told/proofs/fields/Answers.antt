@@ -1,67 +1,35 @@
 -- `fields` meets its contract, word by word. Assumes nothing.
-use Rattle.script.specs.Text.{fields_text}
+use Rattle.std.proofs.Common.{◌≡◌, ◌++◌}
+use Rattle.script.specs.Text.{numbers_text, fields_text}
+use Rattle.put.proofs.Writing.{wrote_then, room_first, room_then, wrote_none, room_same, wrote_same}
+use Rattle.told.proofs.Told.{no_fields, plain_fields}
+use Rattle.told.proofs.fields.Goals.{in-Stab, in-Rect, Joined-w}
 use Rattle.told.proofs.fields.Goals as goal
 
+pub returns-in_default : goal.returns-in_default
+returns-in_default c = wrote_same (no_fields c.args.w c.args.vs.now c.in_default.ensures.cases) (wrote_none c.args.out.now)
+
 pub numbers-requires : goal.numbers-requires
-unfolding fields_text
-numbers-requires c = rw c.in-New.is at c.requires
+numbers-requires c = room_same c.args.out.now (plain_fields c.args.w c.args.vs.now c.in_default-w.not-Stab c.in_default-w.not-Rect) c.requires
 
-pub returns-in-New : goal.returns-in-New
-unfolding fields_text
-returns-in-New c = rw c.in-New.is c.numbers.ensures
+pub returns-in_default-w : goal.returns-in_default-w
+returns-in_default-w c = wrote_same (plain_fields c.args.w c.args.vs.now c.in_default-w.not-Stab c.in_default-w.not-Rect) c.numbers.ensures
 
-pub numbers-requires-in-Join : goal.numbers-requires-in-Join
+-- the word, and then the other values
+worded : (c : Joined-w) → c.match-w.word.now ++ numbers_text c.in-Some.rest.now ≡ fields_text c.args.w c.args.vs.now
 unfolding fields_text
-numbers-requires-in-Join c = rw c.in-Join.is at c.requires
+worded c = elim c.match-w.branch [
+  | in-Stab w ↦ rw (w.in-Stab.is, c.in-Some.ensures.cases.0, w.word-is, w.step-word.ensures)
+  | in-Rect w ↦ rw (w.in-Rect.is, c.in-Some.ensures.cases.0, w.word-is, w.notice-word.ensures)
+]
 
-pub returns-in-Join : goal.returns-in-Join
-unfolding fields_text
-returns-in-Join c = rw c.in-Join.is c.numbers-in-Join.ensures
+pub bytes-requires : goal.bytes-requires
+bytes-requires c =
+    room_first c.match-w.word.now (numbers_text c.in-Some.rest.now) c.args.out.now (room_same c.args.out.now (worded (goal.at.bytes-requires c).Joined-w) c.requires)
 
-pub step_fields-requires : goal.step_fields-requires
-unfolding fields_text
-step_fields-requires c = rw c.in-Stab.is at c.requires
+pub numbers-requires-2 : goal.numbers-requires-2
+numbers-requires-2 c =
+    room_then c.match-w.word.now (numbers_text c.in-Some.rest.now) c.args.out.now c.bytes.new.self (room_same c.args.out.now (worded (goal.at.numbers-requires-2 c).Joined-w) c.requires) c.bytes.ensures
 
-pub returns-in-Stab : goal.returns-in-Stab
-unfolding fields_text
-returns-in-Stab c = rw c.in-Stab.is c.step_fields.ensures
-
-pub notice_fields-requires : goal.notice_fields-requires
-unfolding fields_text
-notice_fields-requires c = rw c.in-Rect.is at c.requires
-
-pub returns-in-Rect : goal.returns-in-Rect
-unfolding fields_text
-returns-in-Rect c = rw c.in-Rect.is c.notice_fields.ensures
-
-pub numbers-requires-in-Out : goal.numbers-requires-in-Out
-unfolding fields_text
-numbers-requires-in-Out c = rw c.in-Out.is at c.requires
-
-pub returns-in-Out : goal.returns-in-Out
-unfolding fields_text
-returns-in-Out c = rw c.in-Out.is c.numbers-in-Out.ensures
-
-pub numbers-requires-in-Drop : goal.numbers-requires-in-Drop
-unfolding fields_text
-numbers-requires-in-Drop c = rw c.in-Drop.is at c.requires
-
-pub returns-in-Drop : goal.returns-in-Drop
-unfolding fields_text
-returns-in-Drop c = rw c.in-Drop.is c.numbers-in-Drop.ensures
-
-pub numbers-requires-in-Find : goal.numbers-requires-in-Find
-unfolding fields_text
-numbers-requires-in-Find c = rw c.in-Find.is at c.requires
-
-pub returns-in-Find : goal.returns-in-Find
-unfolding fields_text
-returns-in-Find c = rw c.in-Find.is c.numbers-in-Find.ensures
-
-pub numbers-requires-in-Audit : goal.numbers-requires-in-Audit
-unfolding fields_text
-numbers-requires-in-Audit c = rw c.in-Audit.is at c.requires
-
-pub returns-in-Audit : goal.returns-in-Audit
-unfolding fields_text
-returns-in-Audit c = rw c.in-Audit.is c.numbers-in-Audit.ensures
+pub returns : goal.returns
+returns c = wrote_same (worded (goal.at.returns c).Joined-w) (wrote_then c.bytes.ensures c.numbers-2.ensures)

@@ -10,10 +10,10 @@ returns-in_default c = notice_lost c.args.t.now c.requires c.args.q c.args.h (mi
 
 pub rectify_at-requires : goal.rectify_at-requires
 rectify_at-requires c =
-    let stands : let a = c.args in Stands a.t.now c.in-Here.k a.h = here c.args.t.now c.args.h _ c.requires (sym c.in-Here.is ∙ c.locate.ensures) in
+    let stands : let a = c.args in Stands a.t.now c.in-Ok.k a.h = here c.args.t.now c.args.h _ c.requires (sym c.in-Ok.is ∙ c.locate.ensures) in
     record { formed_words = c.requires; k_bound = stands.within }
 
-pub returns : goal.returns
-returns c =
-    let stands : let a = c.args in Stands a.t.now c.in-Here.k a.h = here c.args.t.now c.args.h _ c.requires (sym c.in-Here.is ∙ c.locate.ensures) in
+pub returns-in-Ok : goal.returns-in-Ok
+returns-in-Ok c =
+    let stands : let a = c.args in Stands a.t.now c.in-Ok.k a.h = here c.args.t.now c.args.h _ c.requires (sym c.in-Ok.is ∙ c.locate.ensures) in
     notice_taken c.args.t.now c.requires c.args.q c.args.h _ _ stands c.rectify_at.ensures.1

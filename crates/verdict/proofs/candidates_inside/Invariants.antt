@@ -2,13 +2,15 @@
 use Prim.Native.Nat.{◌*◌, ◌≤◌}
 use mathlib.Core.Path.{◌≡◌}
 use lib.ListN.{length}
+use Rattle.std.specs.Iterator.Adapters.{take_source, take_count}
+use Rattle.std.specs.Slice.Iter.{chunks_exact_rest, chunks_exact_size}
 use Rattle.model.specs.Lists.{every}
 use Rattle.model.specs.Table.{record_size, members_of}
 use Rattle.model.specs.Ring.{candidate_inside}
 use Rattle.verdict.proofs.candidates_inside.Given as goal
 
-abbrev pub invariant-loop-left : goal.invariant-loop-left
-invariant-loop-left l = (l.left * record_size l.r ≤ length l.p) × (every candidate_inside (members_of l.r l.left l.p) ≡ every candidate_inside (members_of l.r l.n l.s))
-
-abbrev pub decreases-loop-left : goal.decreases-loop-left
-decreases-loop-left l = l.left
+abbrev pub invariant-loop-record : goal.invariant-loop-record
+invariant-loop-record l =
+    let left = take_count l.record-iterator in
+    let p = chunks_exact_rest (take_source l.record-iterator) in
+    (chunks_exact_size (take_source l.record-iterator) ≡ record_size l.r) × (left * record_size l.r ≤ length p) × (every candidate_inside (members_of l.r left p) ≡ every candidate_inside (members_of l.r l.n l.s))

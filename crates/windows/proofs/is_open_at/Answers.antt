@@ -1,22 +1,15 @@
--- `is_open_at` meets its contract. The invariant: one that held it was found, or one from place i on holds it, just if one of all does. Assumes nothing.
-use Rattle.std.proofs.Common.{sym, refl, ◌∙◌, arith, rules}
-use Rattle.windows.proofs.Words.{found_on, found_here, found_end}
+-- `is_open_at` meets its contract: the words by pairs. Assumes nothing.
+use Rattle.std.proofs.Common.{◌≡◌, ℕ, ◌/◌, Bool, false, ◌||◌, List, length, get_or, ◌∙◌, rules}
+use Rattle.std.proofs.lemmas.Iterator.{YieldsList-from_slice}
+use Rattle.std.proofs.lemmas.Iterator.Consumers.{fold_from_yields_List}
+use Rattle.std.specs.Simd.{first_chunks}
+use Rattle.model.specs.Windows.{window, in_window}
+use Rattle.windows.proofs.Words.{open_pairs}
 use Rattle.windows.proofs.is_open_at.Goals as goal
-
-pub loop-i-init : goal.loop-i-init
-loop-i-init c = (search rules, refl)
-
-pub loop-i-preserved-then-here : goal.loop-i-preserved-then-here
-loop-i-preserved-then-here c =
-    let a = c.args in
-    (search rules, found_here a.w.now c.loop-i.i (omega (arith, c.requires)) c.loop-i.found a.m (sym c.holds-here.ensures ∙ c.if-here.true) ∙ c.loop-i.invariant.1)
-
-pub loop-i-preserved : goal.loop-i-preserved
-loop-i-preserved c =
-    let a = c.args in
-    (search rules, found_on a.w.now c.loop-i.i (omega (arith, c.requires)) c.loop-i.found a.m (sym c.holds-here.ensures ∙ c.if-here.false) ∙ c.loop-i.invariant.1)
 
 pub returns : goal.returns
 returns c =
-    let a = c.args in
-    found_end a.w.now c.loop-i.i (omega (arith, c.requires)) c.loop-i.found a.m ∙ c.loop-i.invariant.1
+    let w = c.args.w.now in
+    let front : c.as_chunks.result.0.now ≡ first_chunks 2 (length w / 2) w = c.as_chunks.ensures.front in
+    let run = fold_from_yields_List _ (λ (found : Bool) (p : List ℕ). found || in_window c.args.m (window (get_or p 0 0) (get_or p 1 0))) false _ c.fold.ensures.ran (YieldsList-from_slice c.as_chunks.result.0.now cc) (λ a x b q k. search rules) in
+    rw front at run ∙ open_pairs w c.args.m false

@@ -1,2 +1,0 @@
--- Laws that the proof of this crate cites.
-pub mod Stored

@@ -1,2 +1,0 @@
--- What the contract of this crate cites besides the model.
-pub mod Standing
