@@ -1,5 +1,6 @@
 // Pages cannot rot: every crate, module, theorem, definition, must-fail edit and file that README.md and docs/*.md name is there, in the
-// module that they say, and docs/ARCHITECTURE.md has the floors of crates.txt. Other folders' pages, docs/PORT.md and docs/DESIGN-PASS.md are read for links alone.
+// module that they say, and docs/ARCHITECTURE.md has the floors of crates.txt. Other folders' pages, docs/PORT.md, docs/DESIGN-PASS.md
+// and docs/LOOK-BACK.md are read for links alone.
 //
 // pages [--root DIR]              a line for each name that is not there, and exit 1; else one line
 // pages --self-test [--root DIR]  changes one name after the other, in memory; exit 1 if a change is not refused
@@ -14,7 +15,7 @@ const DEFINITIONS: &str = "model"; // the crate of the column "definitions (mode
 const THEOREMS: &str = "theory"; // the crate of a module that is named without one
 const PICTURED: &str = "docs/ARCHITECTURE.md"; // the page with the floors and, fenced, the picture
 const LISTED: &str = "crates.txt";
-const TOLD: [&str; 2] = ["docs/PORT.md", "docs/DESIGN-PASS.md"]; // they tell of names that were, as the notes in docs/changes do
+const TOLD: [&str; 3] = ["docs/PORT.md", "docs/DESIGN-PASS.md", "docs/LOOK-BACK.md"]; // they tell of names that were, as the notes in docs/changes do
 const PARENS: [char; 2] = ['(', ')'];
 type Tree = BTreeMap<String, String>;
 type Set<'a> = BTreeSet<&'a str>;

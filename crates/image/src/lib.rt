@@ -13,31 +13,36 @@ ghost use Rattle.answers.specs.Count.{answer_of};
 
 use answers::refusal::Refusal;
 
-// One field a member, for n records, after the first field.
-fn write_fields(out: &mut [u8], ws: &[u32], r: usize, n: usize)
+// One field a member, for n records, after the first field: the position after them. By count, and no position is kept beside those of the loop, as
+// `chunks_exact` and an end computed before would: so writing an image takes no more stack than its row in the header says.
+fn write_fields(out: &mut [u8], ws: &[u32], r: usize, n: usize) -> usize
     requires { (r ≤ 8) × (n * record_size r ≤ length ws.now) × (first_size + n * field_size r ≤ length out.old) }
-    ensures { out.new ≡ placed first_size (member_fields (members_of r n ws.now)) out.old }
+    ensures { (result ≡ first_size + n * field_size r) × (out.new ≡ placed first_size (member_fields (members_of r n ws.now)) out.old) }
 {
     let w = words::record_size(r);
     let mut at = fields::MEMBERS;
-    for part in ws[..n * w].chunks_exact(w) {
+    let mut left = &ws[..n * w];
+    for _ in 0..n {
+        let (part, others) = left.split_at(w);
         fields::write_field(out, at, part, r);
-        at += fields::HEAD + fields::member_length(r);
+        at += fields::field_size(w);
+        left = others;
     }
+    at
 }
 
-// The image of a well-formed table, at the front of the bytes; those after it stay.
-fn write_image(t: &[u32], out: &mut [u8])
+// The image of a well-formed table, at the front of the bytes, and how many they are; those after it stay.
+fn write_image(t: &[u32], out: &mut [u8]) -> usize
     requires formed_words { FormedWords t.now }
     requires t_in_bounds { image_size (get_or t.now 0 0) (get_or t.now 1 0) ≤ length out.old }
-    ensures { out.new ≡ placed 0 (image_of (table_of t.now)) out.old }
+    ensures { (result ≡ image_size (get_or t.now 0 0) (get_or t.now 1 0)) × (out.new ≡ placed 0 (image_of (table_of t.now)) out.old) }
 {
     let r = t[words::R] as usize;
     let n = t[words::COUNT] as usize;
-    let end = fields::image_size(r, n) - fields::HEAD;
     fields::put_header(out, r, n);
-    write_fields(out, words::records_of(t), r, n);
+    let end = write_fields(out, words::records_of(t), r, n);
     fields::put_head(out, end, fields::LAST, 0);
+    end + fields::HEAD
 }
 
 // Writes the image of the table: the bytes written, or 1 or 10 with the bytes unchanged.
@@ -51,8 +56,7 @@ pub fn write(t: &[u32], out: &mut [u8]) -> Result<u32, Refusal>
     if out.len() < size {
         return Err(Refusal::TooShort);
     }
-    write_image(t, out);
-    Ok(size as u32)
+    Ok(write_image(t, out) as u32)
 }
 
 // The records of n members, from their fields, after the header.

@@ -25,7 +25,7 @@ first_part (b ∷ l) = go (eqb b 32) (first_part l)
     go false e = ap (on_first b) e
 
 -- the first n of a list are not changed by leaving out, early, what stands after them
-take_early : {A : Type 0} (n : ℕ) (a b : List A) → take n (take n a ++ b) ≡ take n (a ++ b)
+pub take_early : {A : Type 0} (n : ℕ) (a b : List A) → take n (take n a ++ b) ≡ take n (a ++ b)
 take_early zero a b = refl
 take_early (suc n) [] b = refl
 take_early (suc n) (x ∷ a) b = ap (λ (l : List _). x ∷ l) (take_early n a b)

@@ -122,7 +122,7 @@ module _ (ws : List ℕ) where
         rw z (o.leads (suc e) v (omega arith) (o.within, omega arith, rw (← o.next) w))
 
   module _ (k c y : ℕ) (l : Leads k c y) where
-    known_moves : Along ws (moves_at ws y) c k
+    pub known_moves : Along ws (moves_at ws y) c k
     known_moves = let z : c + 0 ≡ c = omega arith in rw z at (l 0 (moves_at ws y) (omega (arith, moves_few ws y)) tt)
 
     -- the moves from y are known

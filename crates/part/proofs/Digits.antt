@@ -14,7 +14,7 @@ pub record Reading (p : List ℕ) (i v : ℕ) : Type 0 where
   pub number : value_from v (drop i p) ≡ value p
   pub fits : v < 4294967296
 
-value_more : (v : ℕ) (l : List ℕ) → v ≤ value_from v l
+pub value_more : (v : ℕ) (l : List ℕ) → v ≤ value_from v l
 value_more v [] = omega arith
 value_more v (b ∷ l) = omega (arith, value_more (v * 10 + (b - 48)) l)
 
@@ -28,11 +28,11 @@ module _ (p : List ℕ) where
   unfolding is_number number_of
   too_many h = grind (arith, nat_tests)
 
-  no_digit : every is_digit p ≡ false → None ≡ number_of p
+  pub no_digit : every is_digit p ≡ false → None ≡ number_of p
   unfolding is_number number_of
   no_digit e = grind (arith, nat_tests)
 
-  too_high : 4294967296 ≤ value p → None ≡ number_of p
+  pub too_high : 4294967296 ≤ value p → None ≡ number_of p
   unfolding is_number number_of
   too_high h = grind (arith, nat_tests)
 

@@ -18,6 +18,10 @@ pub fn until(s: &[u8], b: u8) -> usize
 pub fn word(p: &[u8]) -> Option<Word>
     ensures { result ≡ maybe_word (word_of p.now) }
 {
+    // A word has three to five letters: no word is looked for in a part of another length.
+    if p.len() < 3 || 5 < p.len() {
+        return None;
+    }
     Word::ALL.iter().copied().find(|w| p == w.text())
 }
 

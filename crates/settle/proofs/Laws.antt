@@ -1,5 +1,5 @@
 -- Why a table gets no round, and rounds one after the other, each looked at before it, with a limit or at the minutes of a list. Assumes nothing.
-use Prim.Native.Nat.{ℕ, zero, suc, ◌+◌, ◌-◌, ◌≤◌, ◌<◌}
+use Prim.Native.Nat.{ℕ, zero, suc, ◌+◌, ◌≤◌, ◌<◌}
 use mathlib.Core.Path.{◌≡◌, refl, sym, ap, ◌∙◌}
 use mathlib.Core.Bool.{Bool, true, false, false≢true}
 use mathlib.Core.List.{List, [], ◌∷◌}
@@ -8,7 +8,7 @@ use lib.Dec.{ltb, eqb}
 use lib.ListN.{length, get_or, drop, drop_of_length-le}
 use lib.Seq.{drop-cons}
 use borrow.Author.Tests.{ltb-true, ne_eqb, not-false}
-use Rattle.std.specs.Prelude.{if◌then◌else◌}
+use Rattle.std.specs.Prelude.{if◌then◌else◌, Option, Some, None}
 use Rattle.model.specs.Lists.{every, rising}
 use Rattle.model.specs.Table.{Table, table_of, members_in, well_formed}
 use Rattle.model.specs.Ring.{sound, verdict, passed_by_all}
@@ -17,8 +17,12 @@ use Rattle.model.specs.Windows.{Window, is_open, of_week, rounds_at}
 use Rattle.model.specs.Refusals.{bad_windows, bad_minutes, settle_refusal, settle_at_refusal}
 use Rattle.model.specs.Calls.{written}
 use Rattle.laws.specs.Lists.{and-true, Above, Rising, rising_true}
-use Rattle.laws.specs.Accepted.{settle_accepted}
+use Rattle.laws.specs.Accepted.{settle_accepted, settle_accepts}
 use denote.Enum.Bare.{sameb}
+use Rattle.std.proofs.Common.{Result, ok_or}
+use Rattle.answers.specs.Judged.{Judges}
+use Rattle.answers.specs.declared.refusal.Refusal.{Refusal}
+use Rattle.answers.specs.declared.refusal.Refusal.TheVariants.{NotSound as Unsound}
 use Rattle.answers.specs.Verdict.{number_of}
 use Rattle.answers.specs.contracts.report.Verdict.{the_type}
 use Rattle.answers.specs.declared.report.Verdict.{Verdict}
@@ -156,3 +160,13 @@ minutes_few ts b =
     go : (l : List ℕ) → Rising l → every (λ t. ltb t 4294967295) l ≡ true → length l ≤ 4294967295
     go [] h e = omega arith
     go (x ∷ l) h e = let f = and-true (ltb x 4294967295) _ e in omega (arith, below 4294967295 x l h f.1 (ltb-true x 4294967295 f.0))
+
+-- What is passed over, told of a sound table alone
+
+pub judged_formed : (ws : List ℕ) → well_formed ws ≡ true → (o : Option ℕ) (r : Result ℕ Refusal) → o ≡ (if sound (table_of ws) then Some (passed_by_all (members_in ws)) else None)
+    → r ≡ ok_or o Unsound → Judges (settle_refusal ws) (passed_by_all (members_in ws)) r
+judged_formed ws h o r e f = rw (f, e) (go (sound (table_of ws)) refl)
+  where
+    go : (b : Bool) → sound (table_of ws) ≡ b → Judges (settle_refusal ws) (passed_by_all (members_in ws)) (ok_or (if b then Some (passed_by_all (members_in ws)) else None) Unsound)
+    go true s = (settle_accepts ws h s, refl)
+    go false s = not_sound ws h s

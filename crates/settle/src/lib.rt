@@ -2,9 +2,9 @@
 // first round: a round keeps it so.
 #![tactic(auto)]
 
-ghost use Rattle.std.specs.Prelude.{◌≡◌, false};
+ghost use Rattle.std.specs.Prelude.{◌≡◌, false, if◌then◌else◌, Some, None};
 ghost use Rattle.model.specs.Table.{table_of, members_in};
-ghost use Rattle.model.specs.Ring.{verdict, passed_by_all};
+ghost use Rattle.model.specs.Ring.{sound, verdict, passed_by_all};
 ghost use Rattle.model.specs.Settle.{after_round, after_settle, settle_reply};
 ghost use Rattle.model.specs.Windows.{windows_in, after_settle_at, settle_at_reply};
 ghost use Rattle.model.specs.Refusals.{bad_windows, bad_minutes, settle_refusal, settle_at_refusal};
@@ -20,18 +20,19 @@ use answers::refusal::Refusal;
 use answers::report::Verdict;
 use answers::settled::Settled;
 
-// What the members of a well-formed table pass over, or 14. Each list is searched once, for the sum and for the test of soundness.
-fn begun_formed(t: &[u32]) -> Result<u32, Refusal>
+// What the members of a well-formed table pass over, where it is sound. Each list is searched once, for the sum and for the test of soundness.
+// An option, which comes back in registers: a `Result` of a `Refusal` takes stack here and where it is called.
+fn passed_if_sound(t: &[u32]) -> Option<u32>
     requires { FormedWords t.now }
-    ensures { Judges (settle_refusal t.now) (passed_by_all (members_in t.now)) result }
+    ensures { result ≡ (if sound (table_of t.now) then Some (passed_by_all (members_in t.now)) else None) }
 {
     let mut best = [0; 256];
     let passed = best_successors::fill_best(t, &mut best);
     let count = principal::count_principals(t);
     if !verdict::is_sound(t, &best, count) {
-        return Err(Refusal::NotSound);
+        return None;
     }
-    Ok(passed)
+    Some(passed)
 }
 
 // What the members pass over, or 1 or 14.
@@ -39,7 +40,7 @@ fn begun_of(t: &[u32]) -> Result<u32, Refusal>
     ensures { Judges (settle_refusal t.now) (passed_by_all (members_in t.now)) result }
 {
     if table::well_formed(t) {
-        return begun_formed(t);
+        return passed_if_sound(t).ok_or(Refusal::NotSound);
     }
     Err(Refusal::NotWellFormed)
 }
@@ -57,7 +58,7 @@ fn begun_at(t: &[u32], ws: &[u32], ts: &[u32]) -> Result<u32, Refusal>
     if !windows::are_minutes(ts) {
         return Err(Refusal::BadMinutes);
     }
-    begun_formed(t)
+    passed_if_sound(t).ok_or(Refusal::NotSound)
 }
 
 // The verdict on a sound table.

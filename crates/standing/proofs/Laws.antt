@@ -18,11 +18,11 @@ use Rattle.answers.proofs.Judged.{declined_by, kept_by}
 
 -- the answers of `standing_of`
 module _ (ws : List ℕ) (n : ℕ) where
-  a_member : (k : ℕ) → well_formed ws ≡ true → Ok k ≡ located ws n → Judges (member_refusal ws n) (rank (ids (members_in ws)) n) (Ok k)
+  pub a_member : (k : ℕ) → well_formed ws ≡ true → Ok k ≡ located ws n → Judges (member_refusal ws n) (rank (ids (members_in ws)) n) (Ok k)
   unfolding member_refusal
   a_member k h e = let w = present ws n k e in (rw (h, w.0), w.1)
 
-  no_member : (k : ℕ) → well_formed ws ≡ true → Err k ≡ located ws n → member_refusal ws n ≡ 3
+  pub no_member : (k : ℕ) → well_formed ws ≡ true → Err k ≡ located ws n → member_refusal ws n ≡ 3
   unfolding member_refusal
   no_member k h e = rw (h, (missing ws n k e).0)
 

@@ -22,16 +22,19 @@ fn candidate_inside(s: &[u32]) -> bool
     true
 }
 
-// Lies each pending candidate of the n records at the front so?
+// Lies each pending candidate of the n records at the front so? By count: `chunks_exact` counts the words left too, and settle would take more stack.
 pub fn candidates_inside(s: &[u32], r: usize, n: usize) -> bool
     requires { (1 ≤ r) × (r ≤ 8) × (n * record_size r ≤ length s.now) }
     ensures { result ≡ every candidate_inside (members_of r n s.now) }
 {
     let w = words::record_size(r);
-    for record in s.chunks_exact(w).take(n) {
+    let mut left = s;
+    for _ in 0..n {
+        let (record, others) = left.split_at(w);
         if !candidate_inside(record) {
             return false;
         }
+        left = others;
     }
     true
 }

@@ -4,7 +4,7 @@ use Rattle.model.specs.Windows.{window, in_window}
 use Rattle.laws.specs.Windows.{Within, inside, late, early, Shut, before, behind, amid, within_open, shut_closed, within?}
 
 -- a is the distance of the minute from the start, b that of the end
-by_distance : (m s e a b : ℕ) → m < 2 ^ 32 → s < 2 ^ 32 → e < 2 ^ 32 → a < 2 ^ 32 → b < 2 ^ 32 → (a + s) % 4294967296 ≡ m → (b + s) % 4294967296 ≡ e → ltb a b ≡ in_window m (window s e)
+pub by_distance : (m s e a b : ℕ) → m < 2 ^ 32 → s < 2 ^ 32 → e < 2 ^ 32 → a < 2 ^ 32 → b < 2 ^ 32 → (a + s) % 4294967296 ≡ m → (b + s) % 4294967296 ≡ e → ltb a b ≡ in_window m (window s e)
 by_distance m s e a b hm hs he ha hb p q = go (within? m (window s e))
   where
     go : Within m s e ⊎ Shut m s e → ltb a b ≡ in_window m (window s e)

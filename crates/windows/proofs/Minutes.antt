@@ -15,7 +15,7 @@ below b x (y ∷ l) a = ap (λ (t : Bool). ltb x b && t) (below b y l a.1) ∙ g
     go false e = and-false (ltb x b)
 
 module _ (ts : List ℕ) where
-  no_minutes : length ts < 1 → true ≡ not (bad_minutes ts)
+  pub no_minutes : length ts < 1 → true ≡ not (bad_minutes ts)
   unfolding bad_minutes
   no_minutes h = go ts h
     where
@@ -23,7 +23,7 @@ module _ (ts : List ℕ) where
       go [] k = refl
       go (x ∷ l) k = absurd (omega arith)
 
-  last_below : rising ts ≡ true → 0 < length ts → ltb (last_of ts) 4294967295 ≡ not (bad_minutes ts)
+  pub last_below : rising ts ≡ true → 0 < length ts → ltb (last_of ts) 4294967295 ≡ not (bad_minutes ts)
   unfolding bad_minutes
   last_below r h = rw (r, not-not) (sym (go ts (rising_true ts r) h))
     where

@@ -34,8 +34,8 @@ write_image-requires c =
 pub returns : goal.returns
 returns c =
     let known : FormedWords c.args.t.now = formed_words c.args.t.now (sym c.well_formed-2.ensures ∙ c.if-not-well_formed.false) in
-    written _ _ known.right c.image_size-size.result _ c.image_size-size.ensures.0 c.if-out-size.false
-    c.write_image.ensures
+    written _ _ known.right c.write_image.result _ c.write_image.ensures.0 (rw (c.write_image.ensures.0 ∙ sym c.image_size-size.ensures.0) c.if-out-size.false)
+    c.write_image.ensures.1
 
 pub returns-then-not-well_formed : goal.returns-then-not-well_formed
 returns-then-not-well_formed c = no_table _ _ (sym c.well_formed-2.ensures ∙ c.if-not-well_formed.true)

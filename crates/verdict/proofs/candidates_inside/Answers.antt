@@ -1,22 +1,28 @@
 -- `candidates_inside` meets its contract. The invariant: the records left answer as all do. Assumes nothing.
-use mathlib.Core.Path.{◌∙◌}
-use native.Mathlib.Omega.{arith}
-use Rattle.verdict.proofs.Records.{others_fit, inside_here, inside_on, inside_end}
+use Rattle.std.proofs.Common.{◌≡◌, ◌+◌, ◌-◌, ◌++◌, sym, ◌∙◌, arith}
+use Rattle.std.proofs.lemmas.List.{take-append-drop}
+use Rattle.laws.specs.Parts.{one_fits}
+use Rattle.verdict.proofs.Records.{others_fit, inside_here, inside_on}
 use Rattle.verdict.proofs.candidates_inside.Goals as goal
+
+pub split_at-requires : goal.split_at-requires
+split_at-requires c =
+    let k = c.loop in
+    rw c.record_size-w.ensures (one_fits c.args.r (c.args.n - k.counter) k.left.now (omega arith) k.invariant.0)
 
 pub returns-then-not-candidate_inside : goal.returns-then-not-candidate_inside
 returns-then-not-candidate_inside c =
-    let l = c.loop-record in
-    let e = c.in-Some.ensures.steps in
-    inside_here c.args.r _ _ _ _ _ e.0.1.0 (e.0.1.1 ∙ l.invariant.0) e.1 c.candidate_inside.result (c.candidate_inside.ensures c.args.r c.requires.0) c.if-not-candidate_inside.true ∙ l.invariant.2
+    let k = c.loop in
+    let s = c.split_at.ensures in
+    let front : k.left.now ≡ c.split_at.result.0.now ++ c.split_at.result.1.now = rw (s.front, s.back) (sym (take-append-drop c.record_size-w.result k.left.now)) in
+    inside_here c.args.r (c.args.n - k.counter) (c.args.n - (k.counter + 1)) k.left.now _ _ front (s.front_len ∙ c.record_size-w.ensures) (omega arith) c.candidate_inside.result (c.candidate_inside.ensures c.args.r c.requires.0) c.if-not-candidate_inside.true ∙ k.invariant.1
 
-pub loop-record-preserved : goal.loop-record-preserved
-loop-record-preserved c =
-    let l = c.loop-record in
-    let e = c.in-Some.ensures.steps in
-    (e.0.0 ∙ l.invariant.0, others_fit c.args.r _ _ _ _ _ e.0.1.0 (e.0.1.1 ∙ l.invariant.0) e.1 c.candidate_inside.result (c.candidate_inside.ensures c.args.r c.requires.0) l.invariant.1, inside_on c.args.r _ _ _ _ _ e.0.1.0 (e.0.1.1 ∙ l.invariant.0) e.1 c.candidate_inside.result (c.candidate_inside.ensures c.args.r c.requires.0) c.if-not-candidate_inside.false ∙ l.invariant.2)
-
-pub returns : goal.returns
-returns c =
-    let l = c.loop-record in
-    inside_end c.args.r _ _ l.invariant.1 (λ z. omega (arith, (c.in-None.ensures.steps z).1.0, l.invariant.0)) ∙ l.invariant.2
+pub loop-preserved : goal.loop-preserved
+loop-preserved c =
+    let k = c.loop in
+    let s = c.split_at.ensures in
+    let front : k.left.now ≡ c.split_at.result.0.now ++ c.split_at.result.1.now = rw (s.front, s.back) (sym (take-append-drop c.record_size-w.result k.left.now)) in
+    let one : c.args.n - (k.counter + 1) + 1 ≡ c.args.n - k.counter = omega arith in (
+      others_fit c.args.r (c.args.n - k.counter) (c.args.n - (k.counter + 1)) k.left.now _ _ front (s.front_len ∙ c.record_size-w.ensures) one c.candidate_inside.result (c.candidate_inside.ensures c.args.r c.requires.0) k.invariant.0,
+      inside_on c.args.r (c.args.n - k.counter) (c.args.n - (k.counter + 1)) k.left.now _ _ front (s.front_len ∙ c.record_size-w.ensures) one c.candidate_inside.result (c.candidate_inside.ensures c.args.r c.requires.0) c.if-not-candidate_inside.false ∙ k.invariant.1,
+    )
