@@ -195,13 +195,13 @@
       ring_join          256        ring_held          128
       ring_stabilize     320        ring_principal     128
       ring_rectify       256        ring_audit        2816
-      ring_round        1792        ring_findings     3840
-      ring_settle       1792        ring_alike         128
+      ring_round        1216        ring_findings     3840
+      ring_settle       1280        ring_alike         128
       ring_is_open       128        ring_take_over      64
       ring_next_open      64        ring_image_write   128
-      ring_settle_at    2112        ring_image_read    192
+      ring_settle_at    1536        ring_image_read    192
       ring_fail          128        ring_image_field    64
-      ring_leave       15104
+      ring_leave       14592
 
    Time. No call's work grows faster than members * r * log(members), but for ring_held, which goes through its keys too,
    ring_round, with members * r * (r + log(members)), ring_settle, with at most members - 1 rounds, and ring_settle_at, which

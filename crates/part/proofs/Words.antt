@@ -1,11 +1,11 @@
 -- The word with given bytes. Assumes nothing.
-use Rattle.std.proofs.Common.{◌≡◌, ℕ, suc, ◌≤◌, ◌<◌, List, [], ◌∷◌, length, ◌&&◌, true, false, if◌then◌else◌, Some, None, find, eqb, ap, refl, arith}
+use Rattle.std.proofs.Common.{◌≡◌, ℕ, suc, Bool, List, [], ◌∷◌, length, filter, ◌&&◌, true, false, if◌then◌else◌, Some, find, eqb, sym, ap, refl}
+use Rattle.std.proofs.lemmas.Bool.{eqb-false}
 use Rattle.std.proofs.Math.Option.{some}
 use Rattle.std.specs.Str.{bytes_eq}
 use Rattle.model.specs.Lists.{same}
 use Rattle.script.specs.Lines.{letters, word_among}
 use Rattle.script.specs.declared.Word.{Word}
-use Rattle.script.specs.declared.Word.TheVariants.{New, Join, Stab, Rect, Out, Drop, Find, Audit}
 use Rattle.part.specs.Part.{maybe_word}
 
 same_bytes : (a b : List ℕ) → bytes_eq a b ≡ same a b
@@ -28,33 +28,12 @@ unlike [] (y ∷ b) h = refl
 unlike (x ∷ a) [] h = refl
 unlike (x ∷ a) (y ∷ b) h = rw (unlike a b (λ e. h (ap suc e))) (elim (eqb x y) as (λ t. (t && false) ≡ false) [ true ↦ refl | false ↦ refl ])
 
--- a word has three to five letters
-three_up : (w : Word) → 3 ≤ length (letters w)
-three_up New = omega arith
-three_up Join = omega arith
-three_up Stab = omega arith
-three_up Rect = omega arith
-three_up Out = omega arith
-three_up Drop = omega arith
-three_up Find = omega arith
-three_up Audit = omega arith
-
-to_five : (w : Word) → length (letters w) ≤ 5
-to_five New = omega arith
-to_five Join = omega arith
-to_five Stab = omega arith
-to_five Rect = omega arith
-to_five Out = omega arith
-to_five Drop = omega arith
-to_five Find = omega arith
-to_five Audit = omega arith
-
-no_word : (p : List ℕ) (ws : List Word) → ((w : Word) → length p ≡ length (letters w) → ⊥) → None ≡ maybe_word (word_among ws p)
-no_word p [] h = refl
-no_word p (w ∷ ws) h = rw (unlike p (letters w) (h w)) (no_word p ws h)
-
-pub no_short_word : (p : List ℕ) (ws : List Word) → length p < 3 → None ≡ maybe_word (word_among ws p)
-no_short_word p ws h = no_word p ws (λ w e. let m = three_up w in omega arith)
-
-pub no_long_word : (p : List ℕ) (ws : List Word) → 5 < length p → None ≡ maybe_word (word_among ws p)
-no_long_word p ws h = no_word p ws (λ w e. let m = to_five w in omega arith)
+-- a part is no word of another length: so it is looked for among those of its own
+pub of_its_length : (p : List ℕ) (ws : List Word) → word_among (filter (λ w. eqb (length (letters w)) (length p)) ws) p ≡ word_among ws p
+of_its_length p [] = refl
+of_its_length p (w ∷ ws) = go (filter (λ v. eqb (length (letters v)) (length p)) ws) (of_its_length p ws) (eqb (length (letters w)) (length p)) refl
+  where
+    go : (vs : List Word) → word_among vs p ≡ word_among ws p → (b : Bool) → eqb (length (letters w)) (length p) ≡ b
+        → word_among (if b then w ∷ vs else vs) p ≡ (if same p (letters w) then some w else word_among ws p)
+    go vs h true e = rw h refl
+    go vs h false e = rw (unlike p (letters w) (λ q. eqb-false (length (letters w)) (length p) e (sym q))) h

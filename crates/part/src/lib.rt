@@ -3,7 +3,7 @@
 
 ghost use Rattle.std.specs.Prelude.{◌≡◌, ◌≤◌, length, take};
 ghost use Rattle.script.specs.Lines.{word_of};
-ghost use Rattle.part.specs.Part.{reach, maybe_word, number_of};
+ghost use Rattle.part.specs.Part.{reach, words_of_length, maybe_word, number_of};
 
 use script::Word;
 
@@ -14,15 +14,26 @@ pub fn until(s: &[u8], b: u8) -> usize
     s.iter().position(|x| *x == b).unwrap_or(s.len())
 }
 
-// The word that a part is.
+// The words with so many letters, in the order in which they are looked for.
+fn words_of_length(letters: usize) -> &'static [Word]
+    ensures { result.now ≡ words_of_length letters }
+{
+    match letters {
+        3 => &[Word::New, Word::Out],
+        4 => &[Word::Join, Word::Stab, Word::Rect, Word::Drop, Word::Find],
+        5 => &[Word::Audit],
+        _ => &[],
+    }
+}
+
+// The word that a part is, looked for among those as long as it.
 pub fn word(p: &[u8]) -> Option<Word>
     ensures { result ≡ maybe_word (word_of p.now) }
 {
-    // A word has three to five letters: no word is looked for in a part of another length.
-    if p.len() < 3 || 5 < p.len() {
-        return None;
-    }
-    Word::ALL.iter().copied().find(|w| p == w.text())
+    words_of_length(p.len())
+        .iter()
+        .copied()
+        .find(|w| p == w.text())
 }
 
 // The number that a part is: 1 to 10 digits, and at most 4294967295.

@@ -89,28 +89,38 @@ fn mark_skipped(t: &[u32], reach: &mut [u16; 256])
     }
 }
 
-// By place: 1 for a principal, else 0. Each number takes the place of the reach that was read there.
-pub fn principal_bits(t: &[u32]) -> [u16; 256]
-    requires { FormedWords t.now }
-    ensures { Each (members_in t.now) (principal_bit (members_in t.now)) (get_or t.now 1 0) result }
+// By place, into an array of zeros: 1 for a principal, else 0. Each number takes the place of the reach that was read there.
+fn fill_bits(t: &[u32], a: &mut [u16; 256])
+    requires formed_words { FormedWords t.now }
+    requires a_value { a.old ≡ replicate 256 0 }
+    ensures { (length a.new ≡ 256) × Each (members_in t.now) (principal_bit (members_in t.now)) (get_or t.now 1 0) a.new }
 {
     let n = t[words::COUNT] as usize;
-    let mut a = [0u16; 256];
-    mark_skipped(t, &mut a);
+    mark_skipped(t, a);
     let mut top: u16 = 0;
     for k in 0..n {
         top = top.max(a[k]);
         a[k] = u16::from(top <= k as u16);
     }
+}
+
+// The same as an array.
+pub fn principal_bits(t: &[u32]) -> [u16; 256]
+    requires { FormedWords t.now }
+    ensures { Each (members_in t.now) (principal_bit (members_in t.now)) (get_or t.now 1 0) result }
+{
+    let mut a = [0u16; 256];
+    fill_bits(t, &mut a);
     a
 }
 
-// How many members are principals.
+// How many members are principals. The array is filled where it stands: as a value it would be copied twice.
 pub fn count_principals(t: &[u32]) -> usize
     requires { FormedWords t.now }
     ensures { (result ≡ principals (members_in t.now)) × (result ≤ get_or t.now 1 0) }
 {
     let n = t[words::COUNT] as usize;
-    let a = principal_bits(t);
+    let mut a = [0u16; 256];
+    fill_bits(t, &mut a);
     places::count_of(&a, n, 1)
 }

@@ -2,11 +2,11 @@
 // first round: a round keeps it so.
 #![tactic(auto)]
 
-ghost use Rattle.std.specs.Prelude.{◌≡◌, false, if◌then◌else◌, Some, None};
+ghost use Rattle.std.specs.Prelude.{◌≡◌, false, length, if◌then◌else◌, Some, None};
 ghost use Rattle.model.specs.Table.{table_of, members_in};
 ghost use Rattle.model.specs.Ring.{sound, verdict, passed_by_all};
 ghost use Rattle.model.specs.Settle.{after_round, after_settle, settle_reply};
-ghost use Rattle.model.specs.Windows.{windows_in, after_settle_at, settle_at_reply};
+ghost use Rattle.model.specs.Windows.{windows_in, is_open, of_week, after_settle_at, settle_at_reply};
 ghost use Rattle.model.specs.Refusals.{bad_windows, bad_minutes, settle_refusal, settle_at_refusal};
 ghost use Rattle.model.specs.Calls.{written, round_answer, round_words, settle_answer, settle_words, settle_at_answer, settle_at_words};
 ghost use Rattle.table.specs.FormedWords.{FormedWords};
@@ -105,6 +105,14 @@ fn rounds_of(t: &mut [u32], limit: u32, passed: u32) -> Settled
     }
 }
 
+// Is a round due at the minute, counted on in later weeks?
+fn is_due(w: &[u32; 32], minute: u32) -> bool
+    requires { length w.now ≡ 32 }
+    ensures { result ≡ is_open (windows_in w.now) (of_week minute) }
+{
+    windows::is_open_at(w, minute % windows::WEEK)
+}
+
 // A round of a sound table at each open minute, in list order, until it is ideal. Its members pass over so many entries as it begins.
 fn rounds_at(t: &mut [u32], ws: &[u32], ts: &[u32], passed: u32) -> Settled
     requires good { Good t.old }
@@ -124,7 +132,7 @@ fn rounds_at(t: &mut [u32], ws: &[u32], ts: &[u32], passed: u32) -> Settled
                 passed,
             };
         }
-        if windows::is_open_at(&w, minute % windows::WEEK) {
+        if is_due(&w, minute) {
             told = round_of(t);
             rounds += 1;
         }

@@ -5,4 +5,4 @@ use Rattle.principal.proofs.Pairs.{counted_principals}
 use Rattle.principal.proofs.count_principals.Goals as goal
 
 pub returns : goal.returns
-returns c = (c.count_of.ensures.0 ∙ counted_principals c.args.t.now _ c.principal_bits-a.ensures, search rules)
+returns c = (c.count_of.ensures.0 ∙ counted_principals c.args.t.now _ c.fill_bits.ensures.1, search rules)

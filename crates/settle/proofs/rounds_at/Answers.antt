@@ -14,7 +14,7 @@ use Rattle.windows.proofs.Zeros.{padded_length, padding_opens}
 use Rattle.turns.proofs.Lasting.{good_still}
 use Rattle.settle.proofs.Laws.{settling_starts, settling_ends, settling_on, settling_past, none_left_at, list_ends, goes_on_at, passes_at, minutes_few, ideal_is_two, not_two}
 use Rattle.settle.proofs.rounds_at.Goals as goal
-use Rattle.settle.proofs.rounds_at.Goals.{then-is_open_at, else-is_open_at}
+use Rattle.settle.proofs.rounds_at.Goals.{then-is_due, else-is_due}
 
 pub padded-w-requires : goal.padded-w-requires
 padded-w-requires c = few_words c.args.ws.now c.requires.ws_value
@@ -35,8 +35,8 @@ returns-then-eq c =
 asked : (ws w : List ℕ) (m : ℕ) (b : Bool) → bad_windows ws ≡ false → b ≡ is_open (windows_in w) m → w ≡ ws ++ replicate (32 - length ws) 0 → b ≡ is_open (windows_in ws) m
 asked ws w m b right e p = e ∙ (ap (λ (l : List ℕ). is_open (windows_in l) m) p ∙ padding_opens ws (32 - length ws) m right)
 
-pub is_open_at-requires : goal.is_open_at-requires
-is_open_at-requires c = ap length c.padded-w.ensures ∙ padded_length c.args.ws.now (few_words c.args.ws.now c.requires.ws_value)
+pub is_due-requires : goal.is_due-requires
+is_due-requires c = ap length c.padded-w.ensures ∙ padded_length c.args.ws.now (few_words c.args.ws.now c.requires.ws_value)
 
 pub round_of-told-requires : goal.round_of-told-requires
 round_of-told-requires c = good_still c.requires.good c.loop-minute.invariant.runs.follows
@@ -51,14 +51,14 @@ loop-minute-preserved c =
     let l = c.loop-minute in
     let all = (rounds_at vs ts) in
     let u = l.invariant.runs in
-    let told = asked c.args.ws.now _ (of_week (get_or ts l.minute-index 0)) _ c.requires.ws_value c.is_open_at.ensures c.padded-w.ensures in
-    elim c.if-is_open_at.branch [
-      | then-is_open_at w ↦
-          let goes = goes_on_at vs ts l.minute-index c.loop-minute-test.true (table_of l.t) (sym w.if-is_open_at.true ∙ told) (λ z. not_two _ _ c.eq.ensures c.if-eq.false (u.looked ∙ z)) in
+    let told = asked c.args.ws.now _ (of_week (get_or ts l.minute-index 0)) _ c.requires.ws_value c.is_due.ensures c.padded-w.ensures in
+    elim c.if-is_due.branch [
+      | then-is_due w ↦
+          let goes = goes_on_at vs ts l.minute-index c.loop-minute-test.true (table_of l.t) (sym w.if-is_due.true ∙ told) (λ z. not_two _ _ c.eq.ensures c.if-eq.false (u.looked ∙ z)) in
           rw (w.rounds-is, w.told-is, w.t-is)
           (record { few = omega (arith, l.invariant.few); runs = settling_on c.requires.good all u goes w.round_of-told.ensures.0 w.round_of-told.ensures.1 })
-      | else-is_open_at w ↦
-          let past = passes_at vs ts l.minute-index c.loop-minute-test.true (table_of l.t) (sym w.if-is_open_at.false ∙ told) in
+      | else-is_due w ↦
+          let past = passes_at vs ts l.minute-index c.loop-minute-test.true (table_of l.t) (sym w.if-is_due.false ∙ told) in
           rw (w.rounds-is, w.told-is, w.t-is) (record { few = omega (arith, l.invariant.few); runs = settling_past c.requires.good all u past })
     ]
 

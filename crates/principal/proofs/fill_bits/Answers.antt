@@ -1,4 +1,4 @@
--- `principal_bits` meets its contract. The loop's invariant: the numbers so far are right, `top` is the largest reach so far, and the reaches
+-- `fill_bits` meets its contract. The loop's invariant: the numbers so far are right, `top` is the largest reach so far, and the reaches
 -- from there on are as they were. Assumes nothing.
 use Prim.Native.Nat.{◌+◌}
 use mathlib.Core.Path.{sym, ap, ◌∙◌}
@@ -7,7 +7,7 @@ use lib.ListN.{length-set}
 use Rattle.model.specs.Lists.{bit}
 use Rattle.places.proofs.Arrays.{each_stored, bit_from}
 use Rattle.principal.proofs.Reaches.{Top, top_more, not_covered, unread_stored}
-use Rattle.principal.proofs.principal_bits.Goals as goal
+use Rattle.principal.proofs.fill_bits.Goals as goal
 
 pub loop-k-preserved : goal.loop-k-preserved
 loop-k-preserved c =
